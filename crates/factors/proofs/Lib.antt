@@ -1,0 +1,3 @@
+-- Laws of finite sums and products, and of "within c factors".
+pub mod SumLaws
+pub mod NearLaws
