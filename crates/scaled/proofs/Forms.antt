@@ -1,0 +1,125 @@
+-- What the test of an operand tells: Zero, or m of h + 1 digits and e in range. Assumes nothing.
+use mathlib.Core.Path.{_≡_, refl, sym, ap, _∙_}
+use mathlib.Core.Logic.{⊎-elim}
+use mathlib.Core.Bool.{Bool, true, false, not, false≢true}
+use Prim.Native.Nat.{ℕ, zero, suc, _+_, _*_, _^_, _≤_, _<_}
+use native.Mathlib.Nat.{eq-zero-or-pos}
+use native.Mathlib.Omega.{arith}
+use lib.Dec.{eqb, ltb}
+use lib.IntN.{ℤ, pos, negsuc, _+ℤ_}
+use lib.Pow.{pow-pos}
+use lib.Signed.{mag, ltZ}
+use mir.Syntax.{w32}
+use mir.Val.{toZ, ofZ}
+use borrow.Author.Tests.{lt-ltb, le-ltb, eq-eqb, ne-eqb, not-true, not-false}
+use Rattle.scaled.specs.declared.Scaled.{Scaled}
+use Rattle.scaled.specs.declared.Rounded.{Rounded}
+use Rattle.scaled.specs.declared.Rounded.the-variants.{Number, None}
+use Rattle.scaled.specs.Scaled.{zeroNumber, inRange, isNought, isScaledAt, ofScaled, ranged}
+use Rattle.scaled.proofs.Signed32.{order, Held, held, stored}
+use Rattle.scaled.proofs.Differences.{sub-negsuc}
+
+pub false-true {ℓ} : {X : Type ℓ} → false ≡ true → X
+false-true e = absurd (false≢true e)
+
+pub range-mag : (e : ℤ) → inRange e ≡ true → mag e < 16384
+range-mag (pos n) h = ⊎-elim (λ l. omega arith) (λ l. false-true (rw (lt-ltb 16383 n l) at h)) (order n 16383)
+range-mag (negsuc n) h = ⊎-elim (λ l. omega arith) (λ l. false-true (rw (lt-ltb 16383 n l) at h)) (order n 16383)
+
+pub mag-range : (e : ℤ) → mag e < 16384 → inRange e ≡ true
+mag-range (pos n) l = rw (le-ltb 16383 n (omega arith))
+mag-range (negsuc n) l = rw (le-ltb 16383 n (omega arith))
+
+-- a test of natural numbers that failed
+pub not-less : (a b : ℕ) → ltb a b ≡ false → b ≤ a
+not-less a b h = ⊎-elim (λ l. l) (λ l. false-true (sym h ∙ lt-ltb a b l)) (order b a)
+
+-- below the high end the next exponent is in range, and at the high end it is not
+pub next-small : (e : ℤ) → mag e < 16384 → ltZ e (pos 16383) ≡ true → mag (e +ℤ pos 1) < 16384
+next-small (pos n) l h = ⊎-elim (λ g. false-true (sym (le-ltb n 16383 g) ∙ h)) (λ g. omega arith) (order 16383 n)
+next-small (negsuc zero) l h = omega arith
+next-small (negsuc (suc n)) l h = rw (sub-negsuc 1 (suc (suc n)) n (omega arith)) (omega arith)
+
+pub next-none : (m : ℕ) (e : ℤ) → ltZ e (pos 16383) ≡ false → None ≡ ranged m (e +ℤ pos 1)
+next-none m (pos n) h = simp (lt-ltb 16383 (n + 1) (omega (arith, not-less n 16383 h)))
+next-none m (negsuc n) h = false-true (sym h)
+
+-- an exponent in range, as the machine holds it
+pub held-number : {z v : ℤ} (m : ℕ) → Held z v 16384 → Number (record { m = m; e = z }) ≡ ranged m v
+held-number {v = v} m x = ap (λ (z : ℤ). Number (record { m = m; e = z })) (x .is) ∙ simp (mag-range v (x .small))
+
+zero-only : (e : ℤ) → isNought e ≡ true → e ≡ pos 0
+zero-only (pos zero) h = refl
+zero-only (pos (suc n)) h = false-true (simp (le-ltb (suc n) 0 (omega arith), lt-ltb 0 (suc n) (omega arith)) at h)
+zero-only (negsuc n) h = false-true h
+
+-- the two kinds of scaled numbers
+pub data Form (h : ℕ) (a : Scaled) : Type 0 where
+  nought : a .m ≡ 0 → a .e ≡ pos 0 → Form h a
+  more : 2 ^ h ≤ a .m → a .m < 2 * 2 ^ h → inRange (a .e) ≡ true → Form h a
+
+module _ (h : ℕ) (a : Scaled) where
+  pub form : isScaledAt h a ≡ true → Form h a
+  unfolding isScaledAt
+  form s = ⊎-elim none some (eq-zero-or-pos (a .m))
+    where
+      none : a .m ≡ 0 → Form h a
+      none z = nought z (zero-only (a .e) (rw (eq-eqb (a .m) 0 z) at s))
+
+      some : 0 < a .m → Form h a
+      some p = ⊎-elim (λ l. ⊎-elim (big l) (wide l) (order (suc (a .m)) (2 * 2 ^ h))) small (order (2 ^ h) (a .m))
+        where
+          ne : eqb (a .m) 0 ≡ false
+          ne = ne-eqb (a .m) 0 (λ z. omega arith)
+
+          big : 2 ^ h ≤ a .m → a .m < 2 * 2 ^ h → Form h a
+          big l u = more l u (rw (ne, le-ltb (a .m) (2 ^ h) l, lt-ltb (a .m) (2 * 2 ^ h) u) at s)
+
+          wide : 2 ^ h ≤ a .m → 2 * 2 ^ h < suc (a .m) → Form h a
+          wide l u = false-true (rw (ne, le-ltb (a .m) (2 ^ h) l, le-ltb (a .m) (2 * 2 ^ h) (omega arith)) at s)
+
+          small : a .m < 2 ^ h → Form h a
+          small l = false-true (rw (ne, lt-ltb (a .m) (2 ^ h) l) at s)
+
+  pub form-scaled : 2 ^ h ≤ a .m → a .m < 2 * 2 ^ h → inRange (a .e) ≡ true → isScaledAt h a ≡ true
+  unfolding isScaledAt
+  form-scaled l u g = simp (ne-eqb (a .m) 0 (λ z. omega (arith, l, pow-pos h)), le-ltb (a .m) (2 ^ h) l, lt-ltb (a .m) (2 * 2 ^ h) u, g)
+
+pub zero-scaled : (h : ℕ) → isScaledAt h zeroNumber ≡ true
+unfolding isScaledAt
+zero-scaled h = refl
+
+module _ {h : ℕ} {a : Scaled} where
+  pub e-small : Form h a → mag (a .e) < 16384
+  e-small (nought z e) = rw e (omega arith)
+  e-small (more l u r) = range-mag (a .e) r
+
+  pub m-big : Form h a → (a .m ≡ 0 → ⊥) → 2 ^ h ≤ a .m
+  m-big (nought z e) n = absurd (n z)
+  m-big (more l u r) n = l
+
+  pub m-below : Form h a → a .m < 2 * 2 ^ h
+  m-below (nought z e) = omega (arith, pow-pos h)
+  m-below (more l u r) = u
+
+-- an operand that is not scaled, or two that are
+module _ (h : ℕ) (a b : Scaled) (x : Rounded) where
+  pub first-refused : isScaledAt h a ≡ false → None ≡ ofScaled h a b x
+  first-refused s = simp s
+
+  pub second-refused : isScaledAt h a ≡ true → isScaledAt h b ≡ false → None ≡ ofScaled h a b x
+  second-refused s t = simp (s, t)
+
+  pub both-scaled : isScaledAt h a ≡ true → isScaledAt h b ≡ true → x ≡ ofScaled h a b x
+  both-scaled s t = simp (s, t)
+
+-- a test that was passed or failed, of which the branch says `not`
+pub passed : {r s : Bool} → r ≡ s → not r ≡ false → s ≡ true
+passed {r} e n = sym e ∙ not-false r n
+
+pub failed : {r s : Bool} → r ≡ s → not r ≡ true → s ≡ false
+failed {r} e n = sym e ∙ not-true r n
+
+-- the exponent of a tested operand, as the machine holds it
+pub exponent-held : (h : ℕ) (a : Scaled) → isScaledAt h a ≡ true → Held (toZ w32 (ofZ w32 (a .e))) (a .e) 16384
+exponent-held h a s = stored (held (a .e) (e-small (form h a s))) (omega arith)
