@@ -1,0 +1,22 @@
+-- The worked cases, the theorems of the exact theory, and the elimination's error bound.
+pub mod ExactNumbers
+pub mod Cases
+pub mod Sums
+pub mod Ways
+pub mod Led
+pub mod Balance
+pub mod Compare
+pub mod Step
+pub mod Unique
+pub mod Rows
+pub mod Positive
+pub mod Absolute
+pub mod CountLaws
+pub mod Perturb
+pub mod Rounding
+pub mod Bound
+pub mod EliminationBound
+pub mod Sticky
+pub mod Diagonal
+pub mod Exact
+pub mod CasesBound
