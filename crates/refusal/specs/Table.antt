@@ -1,0 +1,62 @@
+-- Document 01, "Reasons for turning an input away": the number and the two places of every refusal, and whose fault it is.
+use Prim.Native.Nat.{ℕ}
+use Rattle.refusal.specs.declared.ChainReason.{ChainReason}
+use Rattle.refusal.specs.declared.ChainReason.the-variants as chain
+use Rattle.refusal.specs.declared.BytesReason.{BytesReason}
+use Rattle.refusal.specs.declared.BytesReason.the-variants as bytes
+use Rattle.refusal.specs.declared.Refusal.{Refusal}
+use Rattle.refusal.specs.declared.Refusal.the-variants.{Chain, Bytes}
+use Rattle.refusal.specs.declared.Outcome.{Outcome}
+use Rattle.refusal.specs.declared.Outcome.the-variants.{Done, Refused}
+use Rattle.refusal.specs.declared.Line.{Line}
+
+-- a refusal's number and its two places (0, 0 unless named)
+abbrev pub numbered : ℕ → ℕ → ℕ → Line
+numbered number first second = record { number = number; first = first; second = second }
+
+-- the table, for a chain
+abbrev pub chainLine : ChainReason → Line
+chainLine chain.Order = numbered 1 0 0
+chainLine chain.Lengths = numbered 2 0 0
+chainLine chain.Starts = numbered 3 0 0
+chainLine (chain.Columns row place) = numbered 4 row place
+chainLine chain.Room = numbered 5 0 0
+chainLine (chain.Unreached from to) = numbered 6 from to
+chainLine chain.Exponent = numbered 7 0 0
+
+-- the table, for stored bytes
+abbrev pub bytesLine : BytesReason → Line
+bytesLine bytes.Order = numbered 1 0 0
+bytesLine bytes.Room = numbered 5 0 0
+bytesLine bytes.Short = numbered 8 0 0
+bytesLine (bytes.Bit row bit) = numbered 9 row bit
+bytesLine bytes.Extra = numbered 10 0 0
+
+abbrev pub line : Refusal → Line
+line (Chain reason) = chainLine reason
+line (Bytes reason) = bytesLine reason
+
+-- the side at fault: the chain, or the stored bytes
+pub data Side : Type 0 where
+  of-chain of-bytes : Side
+
+abbrev pub side : Refusal → Side
+side (Chain reason) = of-chain
+side (Bytes reason) = of-bytes
+
+-- document 01's account of an answer: what is given, or a refusal with the side at fault, its number and its two places
+pub data Verdict (A : Type 0) : Type 0 where
+  accepts : A → Verdict A
+  refuses : Side → Line → Verdict A
+
+abbrev pub refusal : {A : Type 0} → Refusal → Verdict A
+refusal r = refuses (side r) (line r)
+
+abbrev pub verdict : Outcome → Verdict ℕ
+verdict (Done k) = accepts k
+verdict (Refused r) = refusal r
+
+-- a refusal is passed on; otherwise what is tried next decides
+abbrev pub andThen : {A B : Type 0} → Verdict A → (A → Verdict B) → Verdict B
+andThen (accepts given) next = next given
+andThen (refuses side line) next = refuses side line

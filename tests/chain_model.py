@@ -1,0 +1,167 @@
+#!/usr/bin/env python3
+"""An independent model of chains in rows: refusals 1 to 4 and 6, the row look-up, and the masks of the reached states.
+
+It is written from document 01 alone, with a plain graph search, and shares no code with the crates. It generates the input
+of the program `chain_run`, sound and broken chains, and the lines that the program has to print. Regenerate both with
+
+    python3 tests/chain_model.py
+
+which writes crates/chain_run/stdin and crates/chain_run/stdout. The generator is seeded: the files do not change by themselves.
+"""
+import random
+import struct
+from pathlib import Path
+
+LARGEST = 2**32 - 1
+
+
+def check(n, starts, columns, rates):
+    """None if the rules 1 to 4 hold, or the refusal's number and places."""
+    if not 1 <= n <= 64:
+        return 1, 0, 0
+    if len(columns) != len(rates):
+        return 2, 0, 0
+    if len(starts) != n + 1 or starts[0] != 0 or starts[-1] != len(columns):
+        return 3, 0, 0
+    if any(a > b for a, b in zip(starts, starts[1:])):
+        return 3, 0, 0
+    for row in range(n):
+        seen = -1
+        for place in range(starts[row], starts[row + 1]):
+            column = columns[place]
+            if column >= n or column == row or column <= seen:
+                return 4, row, place
+            seen = column
+    return None
+
+
+def reached(n, starts, columns, rates):
+    """For each state the set of states that it reaches, by a search along the positive rates."""
+    to = [
+        [columns[p] for p in range(starts[i], starts[i + 1]) if rates[p] > 0]
+        for i in range(n)
+    ]
+    sets = []
+    for i in range(n):
+        seen, waiting = {i}, [i]
+        while waiting:
+            for j in to[waiting.pop()]:
+                if j not in seen:
+                    seen.add(j)
+                    waiting.append(j)
+        sets.append(seen)
+    return sets
+
+
+def line(n, row, starts, columns, rates):
+    refusal = check(n, starts, columns, rates)
+    accepts = ["accepts", len(columns)]
+    if refusal:
+        words = ["check", "refuses", *refusal, "answer", "refuses", *refusal, "row", "masks"]
+        return " ".join(map(str, words))
+    sets = reached(n, starts, columns, rates)
+    missing = [(i, j) for i in range(n) for j in range(n) if j not in sets[i]]
+    answer = ["refuses", 6, *min(missing)] if missing else accepts
+    part = rates[starts[row] : starts[row + 1]] if row < n else []
+    masks = [x for i in range(n) for x in (i, sum(1 << j for j in sets[i]))]
+    words = ["check", *accepts, "answer", *answer, "row", *part, "masks", *masks]
+    return " ".join(map(str, words))
+
+
+def rows_of(n, entries):
+    """The three lists of a chain given as {(row, column): rate}."""
+    starts, columns, rates = [0], [], []
+    for i in range(n):
+        for j in range(n):
+            if (i, j) in entries:
+                columns.append(j)
+                rates.append(entries[i, j])
+        starts.append(len(columns))
+    return starts, columns, rates
+
+
+def some_rate(rng):
+    return rng.choice([0, 1, 1, 1, 2, rng.randrange(1, 1000), LARGEST])
+
+
+def some_chain(rng):
+    n = rng.choice([1, 1, 2, 2, 3, 3, 4, 5, 6, 8, 12, 31, 32, 33, 63, 64])
+    density = rng.choice([0.5, 1.0, 1.5, 3.0]) / n
+    entries = {
+        (i, j): some_rate(rng) for i in range(n) for j in range(n) if i != j and rng.random() < density
+    }
+    if rng.random() < 0.5:  # a ring through all states, so that many chains have an answer
+        order = rng.sample(range(n), n)
+        for a, b in zip(order, order[1:] + order[:1]):
+            if a != b:
+                entries[a, b] = rng.randrange(1, 9)
+    return n, *rows_of(n, entries)
+
+
+def damaged(rng, n, starts, columns, rates):
+    """One fault at a random place, or a fault of the order."""
+    starts, columns, rates = starts[:], columns[:], rates[:]
+    kind = rng.randrange(9)
+    if kind == 0:
+        n = rng.choice([0, 65, 66, 1000, LARGEST])
+    elif kind == 1:
+        rng.choice([columns, rates]).append(0)
+    elif kind == 2:
+        starts = starts[:-1] if rng.random() < 0.5 else starts + [starts[-1]]
+    elif kind == 3:
+        starts[rng.randrange(len(starts))] += 1
+    elif kind == 4:
+        at = rng.randrange(len(starts))
+        starts[at] = max(0, starts[at] - 1)
+    elif kind == 5 and columns:
+        columns[rng.randrange(len(columns))] = rng.choice([0, n - 1, n, n + 1, LARGEST])
+    elif kind == 6 and len(columns) > 1:
+        at = rng.randrange(1, len(columns))
+        columns[at] = columns[at - 1]
+    elif kind == 7 and len(columns) > 1:
+        at = rng.randrange(1, len(columns))
+        columns[at - 1], columns[at] = columns[at], columns[at - 1]
+    else:
+        starts, columns, rates = [], columns[:1], rates[:1]
+    return n, starts, columns, rates
+
+
+def chains(rng):
+    # document 01's own: case 1, 2, 3, 4, 6, 7, the example of 6, and of 1 to 4
+    yield 1, 0, [0, 0], [], []
+    yield 2, 0, [0, 1, 2], [1, 0], [3, 1]
+    yield 3, 1, [0, 1, 2, 3], [1, 2, 0], [2, 4, 8]
+    yield 2, 1, [0, 1, 2], [1, 0], [1, LARGEST]
+    yield 2, 0, [0, 1, 2], [1, 0], [0, 5]
+    yield 3, 2, [0, 1, 2, 3], [1, 0, 0], [1, 1, 1]
+    yield 2, 0, [0, 1, 1], [1], [3]
+    yield 65, 0, [0] * 66, [], []
+    yield 0, 0, [0], [], []
+    yield LARGEST, 0, [0, 0], [], []
+    yield 2, 0, [0, 1, 1], [1], []
+    yield 2, 0, [0, 1], [1], [1]
+    yield 2, 0, [0, 1, 1], [0], [1]
+    # case 10: 64 states, every rate 1
+    yield 64, 63, *rows_of(64, {(i, j): 1 for i in range(64) for j in range(64) if i != j})
+    for _ in range(200):
+        chain = some_chain(rng)
+        yield chain[0], rng.randrange(chain[0] + 2), *chain[1:]
+    for _ in range(200):
+        chain = damaged(rng, *some_chain(rng))
+        yield chain[0], rng.randrange(70), *chain[1:]
+
+
+def main():
+    here = Path(__file__).resolve().parent.parent / "crates" / "chain_run"
+    words, lines = [], []
+    for n, row, starts, columns, rates in chains(random.Random(1)):
+        assert len(starts) <= 80 and len(columns) <= 4100 and len(rates) <= 4100
+        words += [n, row, len(starts), *starts, len(columns), *columns, len(rates), *rates]
+        lines.append(line(n, row, starts, columns, rates))
+    words = [len(lines), *words]
+    (here / "stdin").write_bytes(struct.pack(f"<{len(words)}I", *words))
+    (here / "stdout").write_text("".join(text + "\n" for text in lines))
+
+
+if __name__ == "__main__":
+    main()
