@@ -1,0 +1,3 @@
+-- What the contract of `solve` cites.
+pub mod Load
+pub mod Solve
