@@ -1,0 +1,2 @@
+-- The table of the worked cases.
+pub mod Table

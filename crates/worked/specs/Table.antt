@@ -1,0 +1,141 @@
+-- Document 01, "Chains worked on paper (those marked * go in the proved table)": the single table of the starred cases, 1 to 9, and
+-- what its rows say, over the definitions that the contracts of the calls cite. `cases-hold` in proofs/Cases.antt proves it.
+use mathlib.Core.List.{List, [], _∷_}
+use mathlib.Core.Path.{_≡_}
+use Prim.Native.Nat.{ℕ, _+_, _*_}
+use lib.IntN.{ℤ, pos, negℤ}
+use lib.ListN.{length}
+use Rattle.refusal.specs.Table.{Verdict, accepts, refuses, of-chain, of-bytes, numbered}
+use Rattle.refusal.specs.declared.Line.{Line}
+use Rattle.scaled.specs.declared.Scaled.{Scaled}
+use Rattle.scaled.specs.Scaled.{rateOf}
+use Rattle.markov.specs.Chain.{Rates}
+use Rattle.markov.specs.Weight.{weight}
+use Rattle.markov.specs.Count.{boundCount}
+use Rattle.chain.specs.Meaning.{rateIn}
+use Rattle.storage.specs.Bytes.{orderOf, startsOf, columnsOf, ratesOf}
+use Rattle.storage.specs.Reading.{readVerdict}
+use Rattle.storage.specs.File.{fileOf}
+use Rattle.solver.specs.Solve.{roomFor, solved, weightsOf, sharesOf, table}
+
+-- ---- chains and numbers
+
+-- an order and the three slices of a chain in rows
+pub record Chain : Type 0 where
+  pub order : ℕ
+  pub starts : List ℕ
+  pub columns : List ℕ
+  pub rates : List ℕ
+
+abbrev pub chain : ℕ → List ℕ → List ℕ → List ℕ → Chain
+chain order starts columns rates = record { order = order; starts = starts; columns = columns; rates = rates }
+
+-- the scaled number (m, e), and the exponent -k
+abbrev pub scaled : ℕ → ℤ → Scaled
+scaled m e = record { m = m; e = e }
+
+abbrev pub minus : ℕ → ℤ
+minus k = negℤ (pos k)
+
+-- ---- what is computed of a chain
+
+abbrev pub rate : Chain → Rates
+rate c = rateIn (c .starts) (c .columns) (c .rates)
+
+-- the answer of solving, with just the needed places lent
+abbrev pub answer : Chain → Verdict ℕ
+answer c =
+    solved (c .order) (c .starts) (c .columns) (c .rates)
+    (roomFor (c .order) (c .order * c .order) (c .order * c .order) (c .order) (c .order) (c .order) (c .order))
+
+abbrev pub exactWeights : Chain → List ℕ
+exactWeights c = table (c .order) (weight (c .order) (rate c))
+
+abbrev pub weights : Chain → List Scaled
+weights c = table (c .order) (weightsOf (c .order) (c .starts) (c .columns) (c .rates))
+
+abbrev pub shares : Chain → List Scaled
+shares c = table (c .order) (sharesOf (c .order) (c .starts) (c .columns) (c .rates))
+
+-- ---- what a row says
+
+-- this chain is accepted with this bound count; its exact weights, its computed weights and its shares are these
+pub record Solves (c : Chain) (bound : ℕ) (exact : List ℕ) (computed taken : List Scaled) : Type 0 where
+  pub accepted : answer c ≡ accepts bound
+  pub exact-weights : exactWeights c ≡ exact
+  pub weights-are : weights c ≡ computed
+  pub shares-are : shares c ≡ taken
+
+-- solving refuses this chain, with this number and these places
+abbrev pub Refuses : Chain → Line → Type 0
+Refuses c line = answer c ≡ refuses of-chain line
+
+-- reading refuses these bytes, with this number and these places, whatever the lengths of the lent slices
+abbrev pub Unreadable : List ℕ → Line → Type 0
+Unreadable bytes line = (starts columns rates : ℕ) → readVerdict bytes starts columns rates ≡ refuses of-bytes line
+
+-- these bytes are read as this chain, into slices of just the needed lengths, and they are its file
+pub record Stores (bytes : List ℕ) (c : Chain) : Type 0 where
+  pub accepted : readVerdict bytes (c .order + 1) (length (c .columns)) (length (c .rates)) ≡ accepts (c .order, length (c .columns))
+  pub chain-is : chain (orderOf bytes) (startsOf bytes) (columnsOf bytes) (ratesOf bytes) ≡ c
+  pub file-is : fileOf (c .order) (c .starts) (c .columns) (c .rates) ≡ bytes
+
+-- ---- the chains
+
+-- "n = 1, no entries"
+abbrev pub chain1 : Chain
+chain1 = chain 1 (0 ∷ 0 ∷ []) [] []
+
+-- "n = 2, 0 to 1 rate 3, 1 to 0 rate 1"
+abbrev pub chain2 : Chain
+chain2 = chain 2 (0 ∷ 1 ∷ 2 ∷ []) (1 ∷ 0 ∷ []) (3 ∷ 1 ∷ [])
+
+-- "Ring 0 to 1 rate 2, 1 to 2 rate 4, 2 to 0 rate 8"
+abbrev pub chain3 : Chain
+chain3 = chain 3 (0 ∷ 1 ∷ 2 ∷ 3 ∷ []) (1 ∷ 2 ∷ 0 ∷ []) (2 ∷ 4 ∷ 8 ∷ [])
+
+-- "n = 2, 0 to 1 rate 1, 1 to 0 rate 4294967295"
+abbrev pub chain4 : Chain
+chain4 = chain 2 (0 ∷ 1 ∷ 2 ∷ []) (1 ∷ 0 ∷ []) (1 ∷ 4294967295 ∷ [])
+
+-- "n = 2, 0 to 1 rate 0, 1 to 0 rate 5"
+abbrev pub chain6 : Chain
+chain6 = chain 2 (0 ∷ 1 ∷ 2 ∷ []) (1 ∷ 0 ∷ []) (0 ∷ 5 ∷ [])
+
+-- "n = 3, 0 to 1 and 1 to 0 and 2 to 0, all rate 1"
+abbrev pub chain7 : Chain
+chain7 = chain 3 (0 ∷ 1 ∷ 2 ∷ 3 ∷ []) (1 ∷ 0 ∷ 0 ∷ []) (1 ∷ 1 ∷ 1 ∷ [])
+
+-- "02 02 03 00 00 00 01 01 00 00 00", whose printed lines case 2 refers to
+abbrev pub printed : List ℕ
+printed = 2 ∷ 2 ∷ 3 ∷ 0 ∷ 0 ∷ 0 ∷ 1 ∷ 1 ∷ 0 ∷ 0 ∷ 0 ∷ []
+
+-- ---- the table
+
+pub record Cases : Type 0 where
+  -- "weight 1, that is (2147483648, -31); share the same"
+  pub case-1 : Solves chain1 0 (1 ∷ []) (scaled 2147483648 (minus 31) ∷ []) (scaled 2147483648 (minus 31) ∷ [])
+  -- "as printed; exact weights 1, 3"
+  pub case-2 : Solves chain2 8 (1 ∷ 3 ∷ [])
+      (scaled 2863311530 (minus 33) ∷ scaled 2147483648 (minus 31) ∷ [])
+      (scaled 2147483648 (minus 33) ∷ scaled 3221225472 (minus 32) ∷ [])
+  -- and the bytes of that print
+  pub case-2-stored : Stores printed chain2
+  -- "weights 4, 2, 1; exact 32, 16, 8; shares (2454267026, -32), (2454267026, -33), (2454267026, -34)"
+  pub case-3 : Solves chain3 28 (32 ∷ 16 ∷ 8 ∷ [])
+      (scaled 2147483648 (minus 29) ∷ scaled 2147483648 (minus 30) ∷ scaled 2147483648 (minus 31) ∷ [])
+      (scaled 2454267026 (minus 32) ∷ scaled 2454267026 (minus 33) ∷ scaled 2454267026 (minus 34) ∷ [])
+  -- "weight 0 (4294967295, 0); shares (4294967295, -32) and (2147483648, -63)"
+  pub case-4 : Solves chain4 8 (4294967295 ∷ 1 ∷ [])
+      (scaled 4294967295 (pos 0) ∷ scaled 2147483648 (minus 31) ∷ [])
+      (scaled 4294967295 (minus 32) ∷ scaled 2147483648 (minus 63) ∷ [])
+  -- "Rate 3 is (3221225472, -30)."
+  pub case-5 : rateOf 3 ≡ scaled 3221225472 (minus 30)
+  -- "refusal 6, (0, 1)"
+  pub case-6 : Refuses chain6 (numbered 6 0 1)
+  -- "refusal 6, (0, 2)"
+  pub case-7 : Refuses chain7 (numbered 6 0 2)
+  -- "K(1) = 0, K(2) = 8, K(3) = 28, K(64) = 182,784"
+  pub case-8 : (boundCount 1 ≡ 0) × (boundCount 2 ≡ 8) × (boundCount 3 ≡ 28) × (boundCount 64 ≡ 182784)
+  -- "Order byte 0 and 65: 1. Order byte 64 followed by nothing: 8."
+  pub case-9 : Unreadable (0 ∷ []) (numbered 1 0 0) × Unreadable (65 ∷ []) (numbered 1 0 0) × Unreadable (64 ∷ []) (numbered 8 0 0)
