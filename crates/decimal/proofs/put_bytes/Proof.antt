@@ -1,0 +1,32 @@
+-- A text is copied where it fits, and nothing is changed where it does not. Assumes nothing.
+use mathlib.Core.Path.{refl}
+use native.Mathlib.Omega.{arith}
+use Rattle.decimal.proofs.PutLaws.{put-fits, put-not}
+use borrow.Author.Needs.{needs}
+use Rattle.decimal.proofs.put_bytes.Statement.{statement}
+use Rattle.decimal.proofs.put_bytes.Tie as tie
+
+returns : tie.Need-returns
+returns c = put-not (omega arith) refl refl
+
+sub-if2 : tie.Need-sub-if2
+sub-if2 c = search needs
+
+returns-2 : tie.Need-returns-2
+returns-2 c = put-not (omega arith) refl refl
+
+copy-requires : tie.Need-copy-requires
+copy-requires c κs = search needs
+
+add-result : tie.Need-add-result
+add-result c = search needs
+
+same-length : tie.Need-same-length
+same-length c = search needs
+
+returns-3 : tie.Need-returns-3
+returns-3 c = put-fits (omega arith) (c .before .before .copy .ensures) refl
+
+pub put-bytes-spec : {M : Type 1} → statement M
+put-bytes-spec =
+    tie.close (tie.spec returns sub-if2 returns-2 copy-requires add-result same-length returns-3)
