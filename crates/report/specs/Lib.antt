@@ -1,0 +1,2 @@
+-- What the contract cites: the text of the printing program for any bytes.
+pub mod Report

@@ -1,0 +1,106 @@
+// What the printing program prints for any bytes, put at the front of a lent buffer.
+//
+// The longest text has 55 + 67 × 64 bytes: the line "states n bound K" and the lines of 64 states. A shorter buffer is left as it is.
+ghost use Prim.Native.Nat.{_+_, _≤_, _<_};
+ghost use mathlib.Core.Path.{_≡_};
+ghost use lib.ListN.{length, take};
+ghost use Rattle.refusal.specs.Table.{line};
+ghost use Rattle.decimal.specs.States.{results, answerText};
+ghost use Rattle.report.specs.Report.{refusedText, solvedText, Fills, Reports};
+use refusal::Outcome;
+use refusal::Refusal;
+use storage::Reading;
+
+// "refused", its number, its two places.
+fn put_refusal(out: &mut [u8], refusal: Refusal) -> usize
+    requires { ⌜ 4343 ≤ length (now out) ⌝ }
+    ensures { λ r. ⌜ (Fills (now (out .entry)) (refusedText (line refusal)) (now (out .exit)) r) × (r ≤ 4343) ⌝ }
+{
+    let line = refusal::listed(refusal);
+    decimal::put_refused(out, 0, line.number, line.first, line.second)
+}
+
+// "states n bound K", then for each state its number, weight m, weight e, share m, share e.
+fn put_answer(
+    out: &mut [u8],
+    order: usize,
+    bound: usize,
+    wm: &[u32],
+    we: &[i32],
+    sm: &[u32],
+    se: &[i32],
+) -> usize
+    requires { ⌜ (4343 ≤ length (now out)) × (order ≤ 64) × (length (now wm) ≡ 64) × (length (now we) ≡ 64) × (length (now sm) ≡ 64) × (length (now se) ≡ 64) ⌝ }
+    ensures { λ r. ⌜ Fills (now (out .entry)) (answerText order bound (results (now (wm .entry)) (now (we .entry)) (now (sm .entry)) (now (se .entry)))) (now (out .exit)) r ⌝ }
+{
+    let at = decimal::put_header(out, 0, order, bound as u64);
+    decimal::put_states(out, at, order, wm, we, sm, se)
+}
+
+// The text for a chain: its weights and shares, or the refusal of solving.
+fn put_solved(out: &mut [u8], order: usize, starts: &[u32], columns: &[u32], rates: &[u32]) -> usize
+    requires { ⌜ (4343 ≤ length (now out)) × (order ≤ 64) ⌝ }
+    ensures { λ r. ⌜ (Fills (now (out .entry)) (solvedText order (now (starts .entry)) (now (columns .entry)) (now (rates .entry))) (now (out .exit)) r) × (r ≤ 4343) ⌝ }
+{
+    let mut m = [0u32; 4096];
+    let mut e = [0i32; 4096];
+    let mut wm = [0u32; 64];
+    let mut we = [0i32; 64];
+    let mut sm = [0u32; 64];
+    let mut se = [0i32; 64];
+    match solver::solve(
+        order,
+        starts,
+        columns,
+        rates,
+        &mut m,
+        &mut e,
+        &mut wm,
+        &mut we,
+        &mut sm,
+        &mut se,
+    ) {
+        Outcome::Done(bound) => put_answer(out, order, bound, &wm, &we, &sm, &se),
+        Outcome::Refused(refusal) => put_refusal(out, refusal),
+    }
+}
+
+// The text for the chain that a reading left in the front of the slices.
+fn put_chain(
+    out: &mut [u8],
+    order: usize,
+    entries: usize,
+    starts: &[u32],
+    columns: &[u32],
+    rates: &[u32],
+) -> usize
+    requires { ⌜ (4343 ≤ length (now out)) × (order ≤ 64) × (order < length (now starts)) × (entries ≤ length (now columns)) × (entries ≤ length (now rates)) ⌝ }
+    ensures { λ r. ⌜ (Fills (now (out .entry)) (solvedText order (take (order + 1) (now (starts .entry))) (take entries (now (columns .entry))) (take entries (now (rates .entry)))) (now (out .exit)) r) × (r ≤ 4343) ⌝ }
+{
+    put_solved(
+        out,
+        order,
+        &starts[..order + 1],
+        &columns[..entries],
+        &rates[..entries],
+    )
+}
+
+// Puts the text for these bytes at the front of `out`: the answer is the number of its bytes. Where `out` has fewer than 4343 bytes,
+// nothing is changed and the answer is 0.
+pub fn report(bytes: &[u8], out: &mut [u8]) -> usize
+    ensures { λ r. ⌜ Reports (now (bytes .entry)) (now (out .entry)) (now (out .exit)) r ⌝ }
+{
+    if out.len() < 4343 {
+        return 0;
+    }
+    let mut starts = [0u32; 65];
+    let mut columns = [0u32; 4032];
+    let mut rates = [0u32; 4032];
+    match storage::read(bytes, &mut starts, &mut columns, &mut rates) {
+        Reading::Chain { order, entries } => {
+            put_chain(out, order, entries, &starts, &columns, &rates)
+        }
+        Reading::Refused(refusal) => put_refusal(out, refusal),
+    }
+}
