@@ -1,0 +1,183 @@
+"""Checks of the models themselves: document 01's worked cases, definitions against definitions, and known slips found."""
+import importlib.machinery
+import importlib.util
+import random
+import subprocess
+import sys
+import tempfile
+from fractions import Fraction
+from pathlib import Path
+
+import worked
+from elimination_model import bound_count, first_unreached, printed
+from exact_solver import FACTOR, at_most_times, balances, weights_by_minors, weights_by_trees
+from generate import sound, stored
+from scaled_model import ZERO, is_scaled, product_of, quotient_of, rate_of, sum_of, value
+from storage_model import read, write
+
+HERE = Path(__file__).resolve().parent
+
+
+def worked_cases():
+    for name, digits, text in worked.PRINTED:
+        assert printed(bytes.fromhex(digits)) == text, name
+    for name, rows, weights in worked.EXACT_WEIGHTS:
+        assert weights_by_trees(rows) == weights_by_minors(rows) == weights, name
+    assert rate_of(3) == (3221225472, -30)
+    for n, count in worked.BOUND_COUNTS:
+        assert bound_count(n) == count
+    lines = printed(write(worked.all_ones())).splitlines()
+    assert lines[0] == "states 64 bound 182784" and len(lines) == 65
+    return f"{len(worked.PRINTED)} printed cases, exact weights of {len(worked.EXACT_WEIGHTS)}, rate 3, K, case 10"
+
+
+def is_largest_not_above(x, exact):
+    """Document 01's sentence: x is the largest scaled number not above exact, with e of any size."""
+    if exact == 0:
+        return x == ZERO
+    if x is None:  # the number with e of any size lies outside: below 2^31 * 2^-16384, or 2^32 * 2^16383 and more
+        return exact < value((2**31, -16384)) or exact >= value((2**32, 16383))
+    return is_scaled(x) and x != ZERO and value(x) <= exact < value((x[0] + 1, x[1]))
+
+
+def scaled_numbers(rng, many=3000):
+    def operand():
+        m = rng.choice((2**31, 2**32 - 1, rng.randrange(2**31, 2**32)))
+        e = rng.choice((-16384, 16383, rng.randint(-40, 40), rng.randint(-16384, 16383)))
+        return ZERO if rng.random() < 0.1 else (m, e)
+
+    for _ in range(many):
+        a, b = operand(), operand()
+        assert is_largest_not_above(sum_of(a, b), value(a) + value(b)), (a, b)
+        assert is_largest_not_above(product_of(a, b), value(a) * value(b)), (a, b)
+        if b != ZERO:
+            assert is_largest_not_above(quotient_of(a, b), value(a) / value(b)), (a, b)
+        rate = rng.randrange(2**rng.randint(0, 32))
+        assert value(rate_of(rate)) == rate
+    assert quotient_of((2**31, 0), ZERO) is None
+    for wrong in ((0, 5), (2**31 - 1, 0), (2**32, 0), (2**31, 16384), (2**31, -16385)):
+        assert sum_of(wrong, ZERO) is product_of(ZERO, wrong) is quotient_of(ZERO, wrong) is None
+    return f"{many} sums, products and quotients"
+
+
+def exact_solvers(rng, many=150):
+    done = 0
+    while done < many:
+        rows = sound(rng)
+        if len(rows) <= 5 and first_unreached(rows) is None:
+            weights = weights_by_trees(rows)
+            assert weights == weights_by_minors(rows) and balances(rows, weights), rows
+            done += 1
+    return f"{many} chains of up to 5 states by both exact methods"
+
+
+def factors():
+    num, den = FACTOR
+    for c in (0, 1, 2, 8, 200):
+        assert at_most_times(num**c, den**c, c) and not at_most_times(num**c + 1, den**c, c)
+    assert Fraction(den + 8, den) < Fraction(num, den) ** 8
+    return "the edge of c factors"
+
+
+def round_trip(rng, many=200):
+    for _ in range(many):
+        rows = sound(rng)
+        assert read(write(rows)) == rows
+    return f"{many} chains written and read"
+
+
+def examples():
+    """Every text among the examples is the source of the stored chain beside it, and unpacking gives the same chain again."""
+    root, many = HERE.parent, 0
+    for text in sorted((root / "examples").glob("*.txt")):
+        chain = text.with_suffix(".chain")
+        with tempfile.TemporaryDirectory() as folder:
+            again, packed = Path(folder, "again.txt"), Path(folder, "packed.chain")
+            for source in (text, again):
+                subprocess.run([root / "tools" / "chain", "pack", source, packed], check=True, stdout=subprocess.DEVNULL)
+                assert packed.read_bytes() == chain.read_bytes(), text.name
+                subprocess.run([root / "tools" / "chain", "unpack", packed, again, "--names", text], check=True)
+        many += 1
+    return f"{many} example texts packed and unpacked"
+
+
+def digits(seed=1, most=200):
+    """The digits that tools/chain shows for a computed share are the exact share's own, correctly rounded."""
+    loader = importlib.machinery.SourceFileLoader("chain_tool", str(HERE.parent / "tools" / "chain"))
+    tool = importlib.util.module_from_spec(importlib.util.spec_from_loader("chain_tool", loader))
+    loader.exec_module(tool)
+    states = 0
+    for data in (stored(seed, i) for i in range(most)):
+        lines = printed(data).splitlines()
+        if lines[0].startswith("states"):
+            exact, count = weights_by_minors(read(data)), 2 * int(lines[0].split()[3]) + len(lines) - 1
+            for line, weight in zip(lines[1:], exact):
+                whole, power = tool.guaranteed(value(tuple(map(int, line.split()[3:]))), count)
+                assert tool.rounded(Fraction(weight, sum(exact)), len(str(whole))) == (whole, power), line
+                states += 1
+    return f"the digits that tools/chain shows for {states} shares"
+
+
+# Slips that the worked cases do not all catch: an edit of a model's text, and what it says.
+SLIPS = (
+    ("total_of(a[k][j] for j in later)", "total_of(a[k][j] for j in reversed(later))", "pivot summed falling"),
+    ("for j in range(k + 1, n)), pivots", "for j in reversed(range(k + 1, n))), pivots", "way back summed falling"),
+    ("total = total_of(weights)", "total = total_of(reversed(weights))", "total taken from the last state"),
+    ("times(a[i][k], t[j])", "over(times(a[i][k], a[k][j]), s)", "entry times entry, then divided"),
+    ("over(total_of(times(weights[j], a[j][k]) for j in range(k + 1, n)), pivots[k])",
+     "total_of(over(times(weights[j], a[j][k]), pivots[k]) for j in range(k + 1, n))", "each term divided on the way back"),
+    ("over(w, total) for w in weights", "w for w in weights", "shares not divided by the total"),
+    ("if rates[p] > 0]", "]", "a stored zero rate taken as a move"),
+    ("for i in range(n) for j in range(n) if j not in sets[i]), None)",
+     "for i in range(1) for j in range(n) if j not in sets[i]), None)", "moves followed from state 0 only"),
+    ("for i in range(n) for j in range(n) if j not in sets[i]), None)",
+     "for i in range(n) for j in reversed(range(n)) if j not in sets[i]), None)", "6 names the highest"),
+    ("for j in columns:", "for j in reversed(columns):", "9 names the highest bit"),
+    ("if j == i or j >= n:", "if j == i:", "bits at n and above let through"),
+    ("if at < len(data):", "if False:", "bytes left over let through"),
+    ("if not 1 <= n <= MOST_STATES:", "if not 1 <= n <= 255:", "order 65 let through"),
+    ('"little")) for p', '"big")) for p', "rates high byte first"),
+    ("largest_not_above((a[0] << (a[1] - e)) + (b[0] << (b[1] - e)), 1, e)",
+     "largest_not_above((a[0] >> (max(a[1], b[1]) - a[1])) + (b[0] >> (max(a[1], b[1]) - b[1])), 1, max(a[1], b[1]))",
+     "operands shortened before adding"),
+    ("largest_not_above(a[0] * b[0], 1,", "largest_not_above(a[0] * b[0] + 2**30, 1,", "products rounded another way"),
+    ("largest_not_above(a[0], b[0],", "largest_not_above(a[0] + 1, b[0],", "quotients too large"),
+)
+
+
+def models_with(old, new):
+    """printed() of the models with one edit of their text."""
+    parts = ("scaled_model", "chain_model", "storage_model", "elimination_model")
+    text = "\n".join((HERE / f"{part}.py").read_text(encoding="utf-8") for part in parts)
+    assert text.count(old) == 1, old
+    lines = text.replace(old, new).split("\n")
+    edited = {"__name__": "edited"}
+    exec("\n".join(line for line in lines if not line.startswith(tuple(f"from {part}" for part in parts))), edited)
+    return edited["printed"]
+
+
+def answer(model, data):
+    try:
+        return model(data)
+    except (IndexError, ValueError, OverflowError, TypeError) as error:
+        return f"{error!r}"
+
+
+def slips(seed=1, most=400):
+    for old, new, what in SLIPS:
+        model = models_with(old, new)
+        assert any(answer(model, stored(seed, i)) != printed(stored(seed, i)) for i in range(most)), f"not told apart: {what}"
+    return f"{len(SLIPS)} slips, each told apart by the first {most} files of seed {seed}"
+
+
+def main():
+    rng = random.Random(1)
+    parts = (worked_cases, lambda: scaled_numbers(rng), lambda: exact_solvers(rng), factors, lambda: round_trip(rng),
+             examples, digits, slips)
+    for part in parts:
+        try:
+            print("ok:", part())
+        except AssertionError as error:
+            print("wrong:", error, file=sys.stderr)
+            return 1
+    return 0
