@@ -1,0 +1,112 @@
+/* The stall calculator, for C: three calls, each proved (crates/stall in the repository).
+ *
+ * Link with target/staticlib/libstall.a, which `rt staticlib stall` writes for x86-64 Linux.
+ *
+ * What a caller owes, for every call:
+ *   - A slice is a pointer, then the number of its elements. The pointer leads to that many elements, which the caller may
+ *     read, and, where the pointer is not const, write; it is aligned for its type and not null. For a slice of no
+ *     elements any aligned pointer that is not null does, as the address of a variable of that type.
+ *   - A slice that is not const overlaps no other slice of the same call.
+ *   - No other thread writes the const slices, or reads or writes the others, before the call returns.
+ * Nothing else is asked: any order, any lengths and any contents are answered.
+ *
+ * Thread-safety: each call is a pure function of what it is lent. It keeps nothing between calls, allocates no memory, does no
+ * input or output, and of the C library it uses memcpy and memset alone, so calls on different memory may run at once.
+ * `stall_solve` uses less than 4 kilobytes of the stack. Every call ends.
+ *
+ * The returned number is 0 (accepted), or the number of the first refusal that applies:
+ *    1  the order is 0 or above 64
+ *    2  columns and rates differ in length
+ *    3  a rule of the row starts is broken
+ *    4  a rule of the columns is broken: the row, the entry's place
+ *    5  a lent buffer is shorter than needed
+ *    6  some state does not reach another: the lowest from, then the lowest to
+ *    7  a number of the elimination leaves the range of exponents
+ *    8  the stored bytes end early
+ *    9  a map's bit stands at its own row, or at n or above: the row, the lowest such bit
+ *   10  stored bytes are left over
+ *
+ * The answer slice. Where it has three places or more, the first three are written, always:
+ *    after 0          what the call below says
+ *    after a refusal  answer[0], answer[1]: the refusal's two places, 0 and 0 unless named above;
+ *                     answer[2]: the side at fault, STALL_CHAIN or STALL_BYTES
+ * Its further places keep what they held. A slice of two places or fewer is not written; the returned number is the same.
+ * The answer slice never leads to refusal 5.
+ */
+#ifndef STALL_H
+#define STALL_H
+
+#include <stddef.h>
+#include <stdint.h>
+
+#ifdef __cplusplus
+extern "C" {
+#endif
+
+#define STALL_MAX_ORDER 64
+#define STALL_MAX_ENTRIES 4032 /* 64 * 63 */
+#define STALL_MAX_BYTES 16641  /* 1 + 64 * 8 + 4 * 4032 */
+
+#define STALL_CHAIN 0
+#define STALL_BYTES 1
+
+/* A chain of order n in rows (compressed sparse rows, places from 0, no diagonal).
+ *   starts   n + 1 numbers: the first is 0, none is below the one before, the last is columns_length
+ *   columns  the entries of row i stand at places starts[i] up to, not including, starts[i + 1]; within a row they rise
+ *            strictly, are below n and never equal the row
+ *   rates    one for each column; a rate of 0 is an entry that means no move
+ *
+ * A result (m, e) means m * 2^e: 2^31 <= m < 2^32 and -16384 <= e <= 16383. */
+
+/* Solves a chain.
+ *   needs     work_m, work_e: n * n places each; the four result slices: n places each; places beyond keep what they held
+ *   tries     1, 2, 3, 4, 5, 6, 7 in that order; the side at fault is always the chain
+ *   after 0   weight_m[i], weight_e[i] are the weight of state i (the last state's is 1), share_m[i], share_e[i] its share; the
+ *             needed work places are 0; answer[0] is the bound count K(n), answer[1] and answer[2] are 0. With
+ *             F = 2^31 / (2^31 - 1), each weight lies within K(n) factors F of the exact one, each share within 2 K(n) + n
+ *   after 1 to 6  the work and result slices are unchanged
+ *   after 7   the needed work and result places are 0 */
+uint32_t stall_solve(size_t n,
+                     const uint32_t *starts, size_t starts_length,
+                     const uint32_t *columns, size_t columns_length,
+                     const uint32_t *rates, size_t rates_length,
+                     uint32_t *work_m, size_t work_m_length,
+                     int32_t *work_e, size_t work_e_length,
+                     uint32_t *weight_m, size_t weight_m_length,
+                     int32_t *weight_e, size_t weight_e_length,
+                     uint32_t *share_m, size_t share_m_length,
+                     int32_t *share_e, size_t share_e_length,
+                     size_t *answer, size_t answer_length);
+
+/* Reads a stored chain: one byte n; then for each row a map of (n + 7) / 8 bytes, bit j in byte j / 8, lowest bit first, and
+ * the rates whose bit stands, four bytes each, low byte first.
+ *   needs     starts: n + 1 places; columns and rates: one place for each entry (STALL_MAX_ORDER + 1 and STALL_MAX_ENTRIES
+ *             always do); places beyond keep what they held
+ *   tries     the order byte (8 if absent, then 1); row by row the map cut short 8, a map's bit 9, rates cut short 8; then 10,
+ *             then 5; the side at fault is always the bytes
+ *   after 0   the chain stands in the three slices; answer[0] is n, answer[1] the number of entries, answer[2] is 0. To solve or
+ *             to write it, pass n + 1 starts and answer[1] columns and rates
+ *   after a refusal  the three slices are unchanged */
+uint32_t stall_read(const uint8_t *bytes, size_t bytes_length,
+                    uint32_t *starts, size_t starts_length,
+                    uint32_t *columns, size_t columns_length,
+                    uint32_t *rates, size_t rates_length,
+                    size_t *answer, size_t answer_length);
+
+/* Stores a chain. A chain without an answer (refusal 6 of solving) is stored too.
+ *   needs     out: 1 + n * ((n + 7) / 8) + 4 * (entries) bytes (STALL_MAX_BYTES always do); bytes beyond keep what they held
+ *   tries     1, 2, 3, 4, 5 in that order; the side at fault is always the chain
+ *   after 0   the file stands in the first answer[0] bytes of out; answer[1] and answer[2] are 0
+ *   after a refusal  out is unchanged */
+uint32_t stall_write(size_t n,
+                     const uint32_t *starts, size_t starts_length,
+                     const uint32_t *columns, size_t columns_length,
+                     const uint32_t *rates, size_t rates_length,
+                     uint8_t *out, size_t out_length,
+                     size_t *answer, size_t answer_length);
+
+#ifdef __cplusplus
+}
+#endif
+
+#endif

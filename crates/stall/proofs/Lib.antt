@@ -1,0 +1,3 @@
+-- What the proofs of several functions use, and what the contracts come to.
+pub mod Answers
+pub mod Direct

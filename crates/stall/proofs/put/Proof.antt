@@ -1,0 +1,38 @@
+-- `put` writes the three places where there is room, and nothing otherwise. Assumes nothing.
+use native.Mathlib.Omega.{arith}
+use lib.ListN.{length-set}
+use Rattle.stall.proofs.Answers.{three-put, none-put}
+use borrow.Author.Needs.{needs}
+use Rattle.stall.proofs.put.Statement.{statement}
+use Rattle.stall.proofs.put.Tie as tie
+use Rattle.stall.proofs.put.Reads as reads
+use Rattle.stall.proofs.put.Lts as lts
+
+slice-write-answer : tie.Need-slice-write-answer
+slice-write-answer c = search needs
+
+slice-write-answer-2 : tie.Need-slice-write-answer-2
+slice-write-answer-2 c = omega (arith, c .if1 .taken, length-set (c .before .args .answer .now) 0 (c .before .args .first))
+
+slice-write-answer-3 : tie.Need-slice-write-answer-3
+slice-write-answer-3 c = search needs
+
+same-length : tie.Need-same-length
+same-length c = search needs
+
+returns : tie.Need-returns
+returns c = three-put _ _ _ _ (c .if1 .taken)
+
+returns-2 : tie.Need-returns-2
+returns-2 c = none-put _ _ (c .if1 .left)
+
+pub put-spec : {M : Type 1} → statement M
+put-spec =
+    tie.close
+    (tie.spec
+    slice-write-answer
+    slice-write-answer-2
+    slice-write-answer-3
+    same-length
+    returns
+    returns-2)

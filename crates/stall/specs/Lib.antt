@@ -1,0 +1,3 @@
+-- What the contracts of the exported calls cite.
+pub mod Answer
+pub mod Calls

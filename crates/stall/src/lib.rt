@@ -1,0 +1,116 @@
+// The three public calls, exported for C: a number is returned, and three places of a lent slice take the rest of the answer.
+// `capi/stall.h` declares them. No call asks anything of its lent slices: any lengths do.
+ghost use mathlib.Core.List.{[], _∷_};
+ghost use mathlib.Core.Path.{_≡_};
+ghost use Rattle.refusal.specs.Table.{side, line};
+ghost use Rattle.stall.specs.Answer.{sideNumber, refusalPlaces, answered};
+ghost use Rattle.stall.specs.Calls.{SolveCalled, ReadCalled, WriteCalled, CountTold, ReadingTold};
+use refusal::Outcome;
+use refusal::Refusal;
+use storage::Reading;
+
+// Three numbers into the first three places of the answer slice, if it has them.
+fn put(answer: &mut [usize], first: usize, second: usize, third: usize)
+    ensures { λ _. ⌜ now (answer .exit) ≡ answered (now (answer .entry)) (first ∷ second ∷ third ∷ []) ⌝ }
+{
+    if 3 <= answer.len() {
+        answer[0] = first;
+        answer[1] = second;
+        answer[2] = third;
+    }
+}
+
+// The side at fault: 0 the chain, 1 the stored bytes.
+fn side_number(refusal: Refusal) -> usize
+    ensures { λ r. ⌜ r ≡ sideNumber (side refusal) ⌝ }
+{
+    match refusal {
+        Refusal::Chain(_) => 0,
+        Refusal::Bytes(_) => 1,
+    }
+}
+
+// A refusal's number is returned; its places and the side at fault go to the answer slice.
+fn tell_refusal(refusal: Refusal, answer: &mut [usize]) -> u32
+    ensures { λ r. ⌜ (r ≡ line refusal .number) × (now (answer .exit) ≡ answered (now (answer .entry)) (refusalPlaces (side refusal) (line refusal))) ⌝ }
+{
+    let listed = refusal::listed(refusal);
+    put(answer, listed.first, listed.second, side_number(refusal));
+    listed.number
+}
+
+fn tell_count(outcome: Outcome, answer: &mut [usize]) -> u32
+    ensures { λ r. ⌜ CountTold outcome (now (answer .entry)) r (now (answer .exit)) ⌝ }
+{
+    match outcome {
+        Outcome::Refused(refusal) => tell_refusal(refusal, answer),
+        Outcome::Done(count) => {
+            put(answer, count, 0, 0);
+            0
+        }
+    }
+}
+
+fn tell_reading(reading: Reading, answer: &mut [usize]) -> u32
+    ensures { λ r. ⌜ ReadingTold reading (now (answer .entry)) r (now (answer .exit)) ⌝ }
+{
+    match reading {
+        Reading::Refused(refusal) => tell_refusal(refusal, answer),
+        Reading::Chain { order, entries } => {
+            put(answer, order, entries, 0);
+            0
+        }
+    }
+}
+
+// Solves a chain, as `solver::solve` does: the answer's first place is the bound count.
+#[no_mangle]
+pub extern "C" fn stall_solve(
+    n: usize,
+    starts: &[u32],
+    columns: &[u32],
+    rates: &[u32],
+    m: &mut [u32],
+    e: &mut [i32],
+    wm: &mut [u32],
+    we: &mut [i32],
+    sm: &mut [u32],
+    se: &mut [i32],
+    answer: &mut [usize],
+) -> u32
+    ensures { λ r. ⌜ SolveCalled n (now (starts .entry)) (now (columns .entry)) (now (rates .entry)) (now (m .entry)) (now (e .entry)) (now (wm .entry)) (now (we .entry)) (now (sm .entry)) (now (se .entry)) (now (answer .entry)) r (now (m .exit)) (now (e .exit)) (now (wm .exit)) (now (we .exit)) (now (sm .exit)) (now (se .exit)) (now (answer .exit)) ⌝ }
+{
+    let outcome = solver::solve(n, starts, columns, rates, m, e, wm, we, sm, se);
+    tell_count(outcome, answer)
+}
+
+// Reads a stored chain, as `storage::read` does: the answer's first two places are the order and the number of entries.
+#[no_mangle]
+pub extern "C" fn stall_read(
+    bytes: &[u8],
+    starts: &mut [u32],
+    columns: &mut [u32],
+    rates: &mut [u32],
+    answer: &mut [usize],
+) -> u32
+    ensures { λ r. ⌜ ReadCalled (now (bytes .entry)) (now (starts .entry)) (now (columns .entry)) (now (rates .entry)) (now (answer .entry)) r (now (starts .exit)) (now (columns .exit)) (now (rates .exit)) (now (answer .exit)) ⌝ }
+{
+    let reading = storage::read(bytes, starts, columns, rates);
+    tell_reading(reading, answer)
+}
+
+// Stores a chain, as `storage::write` does: the answer's first place is the number of bytes.
+#[no_mangle]
+pub extern "C" fn stall_write(
+    n: usize,
+    starts: &[u32],
+    columns: &[u32],
+    rates: &[u32],
+    out: &mut [u8],
+    answer: &mut [usize],
+) -> u32
+    ensures { λ r. ⌜ WriteCalled n (now (starts .entry)) (now (columns .entry)) (now (rates .entry)) (now (out .entry)) (now (answer .entry)) r (now (out .exit)) (now (answer .exit)) ⌝ }
+{
+    let outcome = storage::write(n, starts, columns, rates, out);
+    tell_count(outcome, answer)
+}

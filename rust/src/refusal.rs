@@ -1,0 +1,116 @@
+//! Why an input is turned away: whose fault it is, with that side's own reason inside.
+use std::error::Error;
+use std::fmt;
+
+/// Why a chain is turned away.
+#[derive(Clone, Copy, Debug, PartialEq, Eq, Hash)]
+pub enum ChainReason {
+    /// 1: the order is 0 or above 64.
+    Order,
+    /// 2: columns and rates differ in length.
+    Lengths,
+    /// 3: a rule of the row starts is broken.
+    Starts,
+    /// 4: a rule of the columns is broken, first at this entry.
+    Columns { row: usize, place: usize },
+    /// 5: a lent buffer is shorter than needed. The calls of this crate lend enough and never meet it.
+    Room,
+    /// 6: some state does not reach another.
+    Unreached { from: usize, to: usize },
+    /// 7: a number of the elimination leaves the range of exponents.
+    Exponent,
+}
+
+/// Why stored bytes are turned away.
+#[derive(Clone, Copy, Debug, PartialEq, Eq, Hash)]
+pub enum BytesReason {
+    /// 1: the order byte is 0 or above 64.
+    Order,
+    /// 5: a lent buffer is shorter than needed. The calls of this crate lend enough and never meet it.
+    Room,
+    /// 8: the bytes end early.
+    Short,
+    /// 9: a bit of a row's map stands at its own row, or at the order or above.
+    Bit { row: usize, bit: usize },
+    /// 10: bytes are left over.
+    Extra,
+}
+
+/// A refusal.
+#[derive(Clone, Copy, Debug, PartialEq, Eq, Hash)]
+pub enum Refusal {
+    Chain(ChainReason),
+    Bytes(BytesReason),
+}
+
+impl Refusal {
+    /// The refusal's number, 1 to 10.
+    pub fn number(self) -> u32 {
+        match self {
+            Refusal::Chain(reason) => match reason {
+                ChainReason::Order => 1,
+                ChainReason::Lengths => 2,
+                ChainReason::Starts => 3,
+                ChainReason::Columns { .. } => 4,
+                ChainReason::Room => 5,
+                ChainReason::Unreached { .. } => 6,
+                ChainReason::Exponent => 7,
+            },
+            Refusal::Bytes(reason) => match reason {
+                BytesReason::Order => 1,
+                BytesReason::Room => 5,
+                BytesReason::Short => 8,
+                BytesReason::Bit { .. } => 9,
+                BytesReason::Extra => 10,
+            },
+        }
+    }
+
+    /// The refusal's two places, 0 and 0 where it names none.
+    pub fn places(self) -> (usize, usize) {
+        match self {
+            Refusal::Chain(ChainReason::Columns { row, place }) => (row, place),
+            Refusal::Chain(ChainReason::Unreached { from, to }) => (from, to),
+            Refusal::Bytes(BytesReason::Bit { row, bit }) => (row, bit),
+            _ => (0, 0),
+        }
+    }
+
+    /// From what a call returned and its three answer places. The calls' contracts leave no other numbers and sides.
+    pub(crate) fn told(number: u32, answer: [usize; 3]) -> Refusal {
+        let [first, second, side] = answer;
+        match (side, number) {
+            (0, 1) => Refusal::Chain(ChainReason::Order),
+            (0, 2) => Refusal::Chain(ChainReason::Lengths),
+            (0, 3) => Refusal::Chain(ChainReason::Starts),
+            (0, 4) => Refusal::Chain(ChainReason::Columns {
+                row: first,
+                place: second,
+            }),
+            (0, 5) => Refusal::Chain(ChainReason::Room),
+            (0, 6) => Refusal::Chain(ChainReason::Unreached {
+                from: first,
+                to: second,
+            }),
+            (0, 7) => Refusal::Chain(ChainReason::Exponent),
+            (1, 1) => Refusal::Bytes(BytesReason::Order),
+            (1, 5) => Refusal::Bytes(BytesReason::Room),
+            (1, 8) => Refusal::Bytes(BytesReason::Short),
+            (1, 9) => Refusal::Bytes(BytesReason::Bit {
+                row: first,
+                bit: second,
+            }),
+            (1, 10) => Refusal::Bytes(BytesReason::Extra),
+            _ => unreachable!("the library's contract has no refusal {number} of side {side}"),
+        }
+    }
+}
+
+impl fmt::Display for Refusal {
+    fn fmt(&self, f: &mut fmt::Formatter<'_>) -> fmt::Result {
+        let (first, second) = self.places();
+        write!(f, "refused {} {} {}", self.number(), first, second)
+    }
+}
+
+impl Error for Refusal {}
