@@ -1,0 +1,60 @@
+/* GTH on MPFR numbers of 32 bits rounded down, in document 01's order, printed as the printing program prints. */
+#include "chain.h"
+#include <gmp.h>
+#include <mpfr.h>
+
+#define DOWN MPFR_RNDD
+
+static mpfr_t a[MOST][MOST], pivot[MOST], t[MOST], weight[MOST], term, total;
+
+static void print_scaled(mpz_t m, mpfr_t x) {
+    long e = mpfr_get_z_2exp(m, x);
+    gmp_printf(" %Zd %ld", m, e);
+}
+
+int main(void) {
+    mpz_t m;
+    read_chain();
+    mpfr_set_default_prec(32);
+    mpz_init(m);
+    mpfr_inits(term, total, (mpfr_ptr)0);
+    for (int i = 0; i < n; i++) {
+        mpfr_inits(pivot[i], t[i], weight[i], (mpfr_ptr)0);
+        for (int j = 0; j < n; j++)
+            mpfr_init_set_ui(a[i][j], rate[i][j], DOWN);
+    }
+    for (int k = 0; k < n - 1; k++) {
+        mpfr_set_ui(pivot[k], 0, DOWN);
+        for (int j = k + 1; j < n; j++)
+            mpfr_add(pivot[k], pivot[k], a[k][j], DOWN);
+        for (int j = k + 1; j < n; j++)
+            mpfr_div(t[j], a[k][j], pivot[k], DOWN);
+        for (int i = k + 1; i < n; i++)
+            for (int j = k + 1; j < n; j++)
+                if (i != j) {
+                    mpfr_mul(term, a[i][k], t[j], DOWN);
+                    mpfr_add(a[i][j], a[i][j], term, DOWN);
+                }
+    }
+    mpfr_set_ui(weight[n - 1], 1, DOWN);
+    for (int k = n - 2; k >= 0; k--) {
+        mpfr_set_ui(weight[k], 0, DOWN);
+        for (int j = k + 1; j < n; j++) {
+            mpfr_mul(term, weight[j], a[j][k], DOWN);
+            mpfr_add(weight[k], weight[k], term, DOWN);
+        }
+        mpfr_div(weight[k], weight[k], pivot[k], DOWN);
+    }
+    mpfr_set_ui(total, 0, DOWN);
+    for (int i = 0; i < n; i++)
+        mpfr_add(total, total, weight[i], DOWN);
+    printf("states %d bound %d\n", n, (2 * n * n * n + 6 * n * n - 8 * n) / 3);
+    for (int i = 0; i < n; i++) {
+        printf("%d", i);
+        print_scaled(m, weight[i]);
+        mpfr_div(term, weight[i], total, DOWN);
+        print_scaled(m, term);
+        putchar('\n');
+    }
+    return 0;
+}
