@@ -21,10 +21,10 @@
  *    4  a rule of the columns is broken: the row, the entry's place
  *    5  a lent buffer is shorter than needed
  *    6  some state does not reach another: the lowest from, then the lowest to
- *    7  a number of the elimination leaves the range of exponents
  *    8  the stored bytes end early
  *    9  a map's bit stands at its own row, or at n or above: the row, the lowest such bit
  *   10  stored bytes are left over
+ * After a refusal all lent memory is unchanged, the answer slice apart.
  *
  * The answer slice. Where it has three places or more, the first three are written, always:
  *    after 0          what the call below says
@@ -60,12 +60,11 @@ extern "C" {
 
 /* Solves a chain.
  *   needs     work_m, work_e: n * n places each; the four result slices: n places each; places beyond keep what they held
- *   tries     1, 2, 3, 4, 5, 6, 7 in that order; the side at fault is always the chain
+ *   tries     1, 2, 3, 4, 5, 6 in that order; the side at fault is always the chain
  *   after 0   weight_m[i], weight_e[i] are the weight of state i (the last state's is 1), share_m[i], share_e[i] its share; the
  *             needed work places are 0; answer[0] is the bound count K(n), answer[1] and answer[2] are 0. With
  *             F = 2^31 / (2^31 - 1), each weight lies within K(n) factors F of the exact one, each share within 2 K(n) + n
- *   after 1 to 6  the work and result slices are unchanged
- *   after 7   the needed work and result places are 0 */
+ *   after a refusal  the work and result slices are unchanged */
 uint32_t stall_solve(size_t n,
                      const uint32_t *starts, size_t starts_length,
                      const uint32_t *columns, size_t columns_length,

@@ -131,7 +131,7 @@ static void solve_refusals(void)
     CHECK(solve_fresh(65, none, 1, none, 0, none, 0) == 1 && answer_is(0, 0, STALL_CHAIN) && results_unchanged());
     CHECK(solve_fresh(2, starts2, 3, columns2, 2, rates2, 1) == 2 && answer_is(0, 0, STALL_CHAIN) && results_unchanged());
     CHECK(solve_fresh(2, starts2, 2, columns2, 2, rates2, 2) == 3 && answer_is(0, 0, STALL_CHAIN) && results_unchanged());
-    CHECK(solve_fresh(2, falls, 3, columns2, 1, rates2, 1) == 3 && results_unchanged());
+    CHECK(solve_fresh(2, falls, 3, columns2, 1, rates2, 1) == 3 && answer_is(0, 0, STALL_CHAIN) && results_unchanged());
     CHECK(solve_fresh(2, starts2, 3, own, 2, rates2, 2) == 4 && answer_is(0, 0, STALL_CHAIN) && results_unchanged());
     CHECK(solve_fresh(2, starts2, 3, ones, 2, rates2, 2) == 4 && answer_is(1, 1, STALL_CHAIN) && results_unchanged());
     CHECK(solve_fresh(2, one_way, 3, columns2, 1, rates2, 1) == 6 && answer_is(1, 0, STALL_CHAIN) && results_unchanged());
@@ -213,6 +213,36 @@ static void largest(void)
     CHECK(share_e[0] == -37 || share_e[0] == -38);
 }
 
+/* Moves between neighbours of 64 states, up by rate 1, down by the highest: shares down to about 2^-2016. Then the same without the
+ * last move up, which is refused when all the other checks have passed. */
+static void rarest(void)
+{
+    static uint32_t s[65], c[126], r[126];
+    size_t k = 0, last_up = 0;
+    for (uint32_t i = 0; i < 64; i++) {
+        if (i > 0) {
+            c[k] = i - 1;
+            r[k++] = UINT32_MAX;
+        }
+        if (i < 63) {
+            last_up = k;
+            c[k] = i + 1;
+            r[k++] = 1;
+        }
+        s[i + 1] = (uint32_t)k;
+    }
+    CHECK(solve_fresh(64, s, 65, c, k, r, k) == 0 && answer_is(182784, 0, 0));
+    CHECK(all_zero(work_m, sizeof work_m) && all_zero(work_e, sizeof work_e));
+    for (int i = 0; i < 64; i++) {
+        CHECK(weight_m[i] >= 2147483648u && share_m[i] >= 2147483648u);
+        /* The exact weight over the last one is (2^32 - 1)^(63 - i), a little below 2^(32 * (63 - i)) but for the last. */
+        CHECK(weight_e[i] == (i < 63 ? 32 * (63 - i) - 32 : -31));
+        CHECK(share_e[i] == -32 * i - 31 || share_e[i] == -32 * i - 32);
+    }
+    r[last_up] = 0;
+    CHECK(solve_fresh(64, s, 65, c, k, r, k) == 6 && answer_is(0, 63, STALL_CHAIN) && results_unchanged());
+}
+
 int main(void)
 {
     read_solve_write();
@@ -221,6 +251,7 @@ int main(void)
     short_buffers();
     short_answers();
     largest();
+    rarest();
     printf("C: %d checks, %d failed\n", tried, failed);
     return failed != 0;
 }

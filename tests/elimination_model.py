@@ -1,7 +1,8 @@
 """A model of document 01's elimination on scaled numbers, and of the text that the printing program writes for any bytes.
 
 It follows the sentences of document 01 one by one: the order of every sum, one quotient t(j) for each j of a step,
-entry + entry * t(j), the sum of the way back divided once, and shares by the total taken from state 0 up.
+entry + entry * t(j), the sum of the way back divided once, and shares by the total taken from state 0 up. Every rate and
+every result of an operation passes `within_range`.
 """
 from chain_model import reached, rows_of
 from scaled_model import ZERO, product_of, quotient_of, rate_of, sum_of
@@ -22,8 +23,9 @@ def first_unreached(rows):
 
 
 def within_range(x):
+    """Request R-7: with at most 64 states and 32-bit rates every sum, product and quotient of the elimination is a number."""
     if x is None:
-        raise Refused(7)
+        raise AssertionError("an operation of the elimination has no number")
     return x
 
 
@@ -51,7 +53,7 @@ def entries(rows):
     a = [[ZERO] * n for _ in range(n)]
     for i, row in enumerate(rows):
         for j, rate in row:
-            a[i][j] = rate_of(rate)
+            a[i][j] = within_range(rate_of(rate))
     return a
 
 
@@ -80,7 +82,7 @@ def back(a, pivots):
 
 
 def solve(rows):
-    """The weights and shares of a chain that keeps the rules 1 to 4; Refused with 6 or 7."""
+    """The weights and shares of a chain that keeps the rules 1 to 4; Refused with 6."""
     pair = first_unreached(rows)
     if pair:
         raise Refused(6, *pair)

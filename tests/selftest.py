@@ -9,7 +9,7 @@ from fractions import Fraction
 from pathlib import Path
 
 import worked
-from elimination_model import bound_count, first_unreached, printed
+from elimination_model import bound_count, eliminate, first_unreached, printed
 from exact_solver import FACTOR, at_most_times, balances, weights_by_minors, weights_by_trees
 from generate import sound, stored
 from scaled_model import ZERO, is_scaled, product_of, quotient_of, rate_of, sum_of, value
@@ -58,6 +58,17 @@ def scaled_numbers(rng, many=3000):
     for wrong in ((0, 5), (2**31 - 1, 0), (2**32, 0), (2**31, 16384), (2**31, -16385)):
         assert sum_of(wrong, ZERO) is product_of(ZERO, wrong) is quotient_of(ZERO, wrong) is None
     return f"{many} sums, products and quotients"
+
+
+def no_number():
+    """Entries that no chain leads to: the model stops at a sum above the range, and at a quotient by Zero."""
+    for entry in ((2**31, 16383), ZERO):
+        try:
+            eliminate([[ZERO if i == j else entry for j in range(3)] for i in range(3)])
+        except AssertionError:
+            continue
+        raise AssertionError(f"the elimination goes on without a number, entries {entry}")
+    return "an operation without a number stops the model"
 
 
 def exact_solvers(rng, many=150):
@@ -159,7 +170,7 @@ def models_with(old, new):
 def answer(model, data):
     try:
         return model(data)
-    except (IndexError, ValueError, OverflowError, TypeError) as error:
+    except (IndexError, ValueError, OverflowError, TypeError, AssertionError) as error:
         return f"{error!r}"
 
 
@@ -172,7 +183,7 @@ def slips(seed=1, most=400):
 
 def main():
     rng = random.Random(1)
-    parts = (worked_cases, lambda: scaled_numbers(rng), lambda: exact_solvers(rng), factors, lambda: round_trip(rng),
+    parts = (worked_cases, lambda: scaled_numbers(rng), no_number, lambda: exact_solvers(rng), factors, lambda: round_trip(rng),
              examples, digits, slips)
     for part in parts:
         try:

@@ -53,7 +53,7 @@ fn scaled(m: &[u32], e: &[i32]) -> Vec<Scaled> {
     m.iter().zip(e).map(|(&m, &e)| Scaled { m, e }).collect()
 }
 
-/// Solves a chain: its weights and shares, or the first refusal of 1 to 7.
+/// Solves a chain: its weights and shares, or the first refusal of 1 to 6.
 pub fn solve(chain: &Chain) -> Result<Solution, Refusal> {
     // An order above 64 is refused before any of this memory is met.
     let n = chain.order.min(MAX_ORDER);

@@ -17,8 +17,6 @@ pub enum ChainReason {
     Room,
     /// 6: some state does not reach another.
     Unreached { from: usize, to: usize },
-    /// 7: a number of the elimination leaves the range of exponents.
-    Exponent,
 }
 
 /// Why stored bytes are turned away.
@@ -44,7 +42,7 @@ pub enum Refusal {
 }
 
 impl Refusal {
-    /// The refusal's number, 1 to 10.
+    /// The refusal's number: 1 to 6, or 8 to 10.
     pub fn number(self) -> u32 {
         match self {
             Refusal::Chain(reason) => match reason {
@@ -54,7 +52,6 @@ impl Refusal {
                 ChainReason::Columns { .. } => 4,
                 ChainReason::Room => 5,
                 ChainReason::Unreached { .. } => 6,
-                ChainReason::Exponent => 7,
             },
             Refusal::Bytes(reason) => match reason {
                 BytesReason::Order => 1,
@@ -92,7 +89,6 @@ impl Refusal {
                 from: first,
                 to: second,
             }),
-            (0, 7) => Refusal::Chain(ChainReason::Exponent),
             (1, 1) => Refusal::Bytes(BytesReason::Order),
             (1, 5) => Refusal::Bytes(BytesReason::Room),
             (1, 8) => Refusal::Bytes(BytesReason::Short),

@@ -32,6 +32,10 @@ module _ {F : Factor} where
   pub at-most-cancel : {c k x y : ℕ} → zero < k → AtMost F c (k * x) (k * y) → AtMost F c x y
   at-most-cancel {c} {k} {x} {y} p h = record { bound = le-of-mul-le-mul-left {k = k} (omega arith) p }
 
+  -- more factors allow more
+  pub at-most-more : {c d x y : ℕ} → c ≤ d → AtMost F c x y → AtMost F d x y
+  at-most-more {c} {d} {x} {y} l h = subst (λ e. AtMost F e x y) (add-sub-of-le l) (at-most-trans h (at-most-of-le (d - c) (le-refl y)))
+
   -- ---- both sides
 
   -- equal numbers, at any count
@@ -44,9 +48,8 @@ module _ {F : Factor} where
   pub near-trans : {c d x y z : ℕ} → Near F c x y → Near F d y z → Near F (c + d) x z
   near-trans {c} {d} h k = record { under = at-most-trans (h .under) (k .under); over = rw (add-comm c d) (at-most-trans (k .over) (h .over)) }
 
-  -- more factors allow more
   pub near-more : {c d x y : ℕ} → c ≤ d → Near F c x y → Near F d x y
-  near-more {c} {d} {x} {y} l h = subst (λ e. Near F e x y) (add-sub-of-le l) (near-trans h (near-same (d - c)))
+  near-more l h = record { under = at-most-more l (h .under); over = at-most-more l (h .over) }
 
   pub near-mul : {c d x y u v : ℕ} → Near F c x y → Near F d u v → Near F (c + d) (x * u) (y * v)
   near-mul h k = record { under = at-most-mul (h .under) (k .under); over = at-most-mul (h .over) (k .over) }

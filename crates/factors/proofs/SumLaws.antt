@@ -1,7 +1,7 @@
 -- Laws of finite sums and products. Assumes nothing.
 use mathlib.Core.Path.{_≡_, refl}
-use Prim.Native.Nat.{ℕ, zero, suc, _+_, _*_, _≤_, _<_, zero-le, suc-le-suc}
-use native.Mathlib.Nat.{not-suc-le-zero, mul-le-mul}
+use Prim.Native.Nat.{ℕ, zero, suc, _+_, _*_, _^_, _≤_, _<_, zero-le, suc-le-suc}
+use native.Mathlib.Nat.{le-refl, not-suc-le-zero, mul-le-mul, pow-zero, pow-suc}
 use native.Mathlib.Omega.{arith}
 use Rattle.factors.specs.Sum.{sum, prod}
 
@@ -53,6 +53,12 @@ term-le-sum (suc n) f (suc i) l = omega (arith, term-le-sum n (λ k. f (suc k)) 
 pub sum-pos : (n : ℕ) (f : ℕ → ℕ) (i : ℕ) → i < n → zero < f i → zero < sum n f
 sum-pos n f i l p = omega (arith, term-le-sum n f i l)
 
+-- of n terms, each at most u
+pub sum-most : (n u : ℕ) (f : ℕ → ℕ) → ((i : ℕ) → i < n → f i ≤ u) → sum n f ≤ n * u
+unfolding sum
+sum-most zero u f h = zero-le
+sum-most (suc n) u f h = omega (arith, h zero (omega arith), sum-most n u (λ i. f (suc i)) (λ i l. h (suc i) (suc-le-suc l)))
+
 -- two sums, one inside the other, exchanged
 pub sum-swap : (m n : ℕ) (f : ℕ → ℕ → ℕ) → sum m (λ i. sum n (λ j. f i j)) ≡ sum n (λ j. sum m (λ i. f i j))
 unfolding sum
@@ -80,3 +86,8 @@ pub prod-pos : (n : ℕ) (f : ℕ → ℕ) → ((i : ℕ) → i < n → zero < f
 unfolding prod
 prod-pos zero f p = omega arith
 prod-pos (suc n) f p = mul-le-mul {n₁ = 1} {m₁ = 1} (p zero (suc-le-suc zero-le)) (prod-pos n (λ i. f (suc i)) (λ i l. p (suc i) (suc-le-suc l)))
+
+pub prod-most : (n u : ℕ) (f : ℕ → ℕ) → ((i : ℕ) → f i ≤ u) → prod n f ≤ u ^ n
+unfolding prod
+prod-most zero u f h = rw (pow-zero u) (le-refl 1)
+prod-most (suc n) u f h = rw (pow-suc u n) (omega (arith, mul-le-mul (h zero) (prod-most n u (λ i. f (suc i)) (λ i. h (suc i)))))

@@ -17,3 +17,7 @@ pub record AtMost (F : Factor) (c x y : ℕ) : Type 0 where
 pub record Near (F : Factor) (c x y : ℕ) : Type 0 where
   pub under : AtMost F c x y
   pub over : AtMost F c y x
+
+-- k factors are at most 2
+pub record Mild (F : Factor) (k : ℕ) : Type 0 where
+  pub at-most-2 : F .num ^ k ≤ 2 * F .den ^ k

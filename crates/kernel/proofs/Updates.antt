@@ -1,47 +1,37 @@
--- Rows updated one after another, and why a row whose entry in the pivot's column is Zero stays as it is. Assumes nothing.
-use mathlib.Core.Bool.{Bool, true}
+-- Rows updated one after another, and why rows whose entry in the pivot's column is Zero stay as they are. Assumes nothing.
 use mathlib.Core.List.{List}
-use mathlib.Core.Logic.{_≢_, _⊎_, inl, inr, ⊎-elim}
-use mathlib.Core.Path.{_≡_, refl, sym, ap, ap₂, _∙_}
+use mathlib.Core.Logic.{_≢_}
+use mathlib.Core.Path.{_≡_, refl, sym, ap, ap₂, subst⁻¹, _∙_}
 use Prim.Native.Nat.{ℕ, _+_, _≤_, _<_}
 use native.Mathlib.Decide.{decLt}
-use native.Mathlib.Nat.{zero-mul, eq-or-lt-of-le}
+use native.Mathlib.Nat.{zero-mul}
 use native.Mathlib.Omega.{arith}
 use lib.IntN.{ℤ}
 use Rattle.scaled.specs.declared.Scaled.{Scaled}
-use Rattle.scaled.specs.Scaled.{zeroNumber, isScaled}
+use Rattle.scaled.specs.Scaled.{zeroNumber}
 use Rattle.scaled.specs.Units.{val}
-use Rattle.scaled.proofs.Laws.{zero-of-value, not-scaled, sum-zero-right, sum-left-refused, product-zero-left}
-use Rattle.kernel.specs.Numbers.{settle, noNumber, plus, times, entryAt}
-use Rattle.kernel.specs.Kernel.{Stored, Mapped, updated, Ready, Updated}
+use Rattle.scaled.proofs.Laws.{zero-of-value, sum-zero-right, product-zero-left}
+use Rattle.kernel.specs.Numbers.{Fit, settle, plus, times, entryAt}
+use Rattle.kernel.specs.Kernel.{Mapped, updated, Ready, Updated}
 use Rattle.kernel.proofs.Entries.{kept-none, kept-on, still-square}
+use Rattle.kernel.proofs.Operands.{plus-both, times-both}
 
 -- ---- a product with Zero adds nothing
 
-stored-zero : (a : Scaled) → Stored a → a .m ≡ 0 → a ≡ zeroNumber
-unfolding val
-stored-zero a (inl s) z = zero-of-value a s (rw z (zero-mul _))
-stored-zero a (inr s) z = absurd (let q : a .m ≡ 1 = ap (λ (x : Scaled). x .m) s in omega arith)
+idle : (a t x : Scaled) → Fit (plus x (times a t)) → a .m ≡ 0 → plus x (times a t) ≡ x
+unfolding plus times val
+idle a t x f z =
+    let p = plus-both x (times a t) f in
+    let q = times-both a t (p .1) in
+    let w : a ≡ zeroNumber = zero-of-value a (q .0) (rw z (zero-mul _)) in
+    ap (λ (y : Scaled). plus x (times y t)) w ∙ ap (λ (y : Scaled). plus x y) (ap settle (product-zero-left t (q .1))) ∙ ap settle (sum-zero-right x (p .0))
 
-plus-zero : (x : Scaled) → Stored x → plus x zeroNumber ≡ x
-unfolding plus
-plus-zero x (inl s) = ap settle (sum-zero-right x s)
-plus-zero x (inr s) = rw s (ap settle (sum-left-refused noNumber zeroNumber not-scaled))
-
-zero-times : (t : Scaled) → isScaled t ≡ true → times zeroNumber t ≡ zeroNumber
-unfolding times
-zero-times t s = ap settle (product-zero-left t s)
-
-idle : (a t x : Scaled) → Stored a → a .m ≡ 0 → isScaled t ≡ true → Stored x → plus x (times a t) ≡ x
-idle a t x sa z st sx = rw (stored-zero a sa z, zero-times t st) (plus-zero x sx)
-
-pub row-idle : {n k i : ℕ} {m : List ℕ} {e : List ℤ} {whole : Bool} → Ready n k i whole m e → whole ≡ true → k < i → i < n → entryAt n m e i k .m ≡ 0 → Updated n k i (i + 1) m e m e
-row-idle {n} {k} {i} {m} {e} r w hk hi z = record {
+pub rows-idle : {n k from to : ℕ} {m : List ℕ} {e : List ℤ} → to ≤ n → Ready n k from m e → ((a : ℕ) → from ≤ a → a < to → entryAt n m e a k .m ≡ 0)
+    → Updated n k from to m e m e
+rows-idle {n} {k} {m = m} {e = e} h r z = record {
   kept = kept-none m e;
   done = λ a b l g hb hn d.
-      let q : a ≡ i = omega arith in
-      sym (idle (entryAt n m e a k) (entryAt n m e k b) (entryAt n m e a b) (r .stored a k l (omega arith) (omega arith) (omega arith) (λ v. omega arith)) (rw q z)
-      (r .numbers w b hb hn) (r .stored a b l (omega arith) (omega arith) hn d));
+      sym (idle (entryAt n m e a k) (entryAt n m e k b) (entryAt n m e a b) (r .fits a b l (omega arith) hb hn d) (z a l g));
   above = λ a b l ha hb. refl;
   below = λ a b l ha hb. refl;
   columns = λ a b ha l hb. refl;
@@ -80,34 +70,29 @@ module _ {n k i : ℕ} {m m₁ m₂ : List ℕ} {e e₁ e₂ : List ℤ} (hk : k
 
 -- ---- row after row
 
-pub updated-none : {n k from : ℕ} (m : List ℕ) (e : List ℤ) → Updated n k from from m e m e
-updated-none m e = record {
-  kept = kept-none m e;
-  done = λ a b l g hb hn d. absurd (omega arith);
-  above = λ a b l ha hb. refl;
-  below = λ a b l ha hb. refl;
-  columns = λ a b ha l hb. refl;
-}
-
-pub updated-go : {n k from i : ℕ} {m m₁ m₂ : List ℕ} {e e₁ e₂ : List ℤ} → k < from → from ≤ i → i < n → Updated n k from i m e m₁ e₁ → Updated n k i (i + 1) m₁ e₁ m₂ e₂
-    → Updated n k from (i + 1) m e m₂ e₂
-updated-go {n} {k} {from} {i} {m} {e = e} hk hf hi p q = record {
+pub updated-go : {n k from i to : ℕ} {m m₁ m₂ : List ℕ} {e e₁ e₂ : List ℤ} → k < from → from ≤ i → i ≤ to → to ≤ n → Updated n k from i m e m₁ e₁ → Updated n k i to m₁ e₁ m₂ e₂
+    → Updated n k from to m e m₂ e₂
+updated-go {n} {k} {from} {i} {to} {m} {m₁} {m₂} {e} {e₁} {e₂} hk hf hi ht p q = record {
   kept = kept-on (p .kept) (q .kept);
-  done = λ a b l g hb hn d. ⊎-elim
-      (λ (z : a ≡ i). q .done a b (omega arith) (omega arith) hb hn d
-      ∙ ap₂ plus (p .below a b (omega arith) (omega arith) hn)
-      (ap₂ times (p .below a k (omega arith) (omega arith) (omega arith)) (p .above k b hk (omega arith) hn)))
-      (λ z. q .above a b z (omega arith) hn ∙ p .done a b l z hb hn d)
-      (eq-or-lt-of-le (omega arith));
+  done = λ a b l g hb hn d. by-row a b l g hb hn d (decLt a i);
   above = λ a b l ha hb. q .above a b (omega arith) ha hb ∙ p .above a b l ha hb;
   below = λ a b l ha hb. q .below a b l ha hb ∙ p .below a b (omega arith) ha hb;
   columns = λ a b ha l hb. q .columns a b ha l hb ∙ p .columns a b ha l hb;
 }
+  where
+    by-row : (a b : ℕ) → from ≤ a → a < to → k < b → b < n → a ≢ b → Dec (a < i) → entryAt n m₂ e₂ a b ≡ updated n m e k a b
+    by-row a b l g hb hn d (yes z) = q .above a b z (omega arith) hn ∙ p .done a b l z hb hn d
+    by-row a b l g hb hn d (no z) =
+        q .done a b (omega arith) g hb hn d
+        ∙ ap₂ plus (p .below a b (omega arith) (omega arith) hn)
+        (ap₂ times (p .below a k (omega arith) (omega arith) (omega arith)) (p .above k b hk (omega arith) hn))
 
 -- the rows that are left are as they were
-pub ready-on : {n k from i : ℕ} {m m₁ : List ℕ} {e e₁ : List ℤ} {whole : Bool} → k < from → from ≤ i → Ready n k from whole m e → Updated n k from i m e m₁ e₁ → Ready n k i whole m₁ e₁
+pub ready-on : {n k from i : ℕ} {m m₁ : List ℕ} {e e₁ : List ℤ} → k < from → from ≤ i → Ready n k from m e → Updated n k from i m e m₁ e₁ → Ready n k i m₁ e₁
 ready-on {n} {k} hk hf r p = record {
   square = still-square (r .square) (p .kept);
-  numbers = λ w b l g. rw (p .above k b hk (omega arith) g) (r .numbers w b l g);
-  stored = λ a b l ha g hb d. rw (p .below a b l ha hb) (r .stored a b (omega arith) ha g hb d);
+  fits = λ a b l ha hb hn d.
+      subst⁻¹ Fit
+      (ap₂ plus (p .below a b l ha hn) (ap₂ times (p .below a k l ha (omega arith)) (p .above k b hk (omega arith) hn)))
+      (r .fits a b (omega arith) ha hb hn d);
 }

@@ -1,19 +1,25 @@
--- The elimination's operations on scaled numbers. Where an operation gives no number, a pair that is no scaled number stands in:
--- by document 01's own rule every operation on it gives no number again, so that a failure on the way is seen at the end.
+-- The elimination's operations on scaled numbers. Where an operation gives no number, a pair that is no scaled number stands in, so that
+-- "every number met is a scaled number" says that every operation had a result.
+use mathlib.Core.Bool.{true}
 use mathlib.Core.List.{List}
+use mathlib.Core.Path.{_≡_}
 use Prim.Native.Nat.{ℕ, _+_, _*_}
 use lib.IntN.{ℤ, pos}
 use lib.ListN.{getD}
 use Rattle.scaled.specs.declared.Scaled.{Scaled}
 use Rattle.scaled.specs.declared.Rounded.{Rounded}
 use Rattle.scaled.specs.declared.Rounded.the-variants.{Number, None}
-use Rattle.scaled.specs.Scaled.{zeroNumber, sumOf, productOf, quotientOf}
+use Rattle.scaled.specs.Scaled.{zeroNumber, isScaled, sumOf, productOf, quotientOf}
 use Rattle.scaled.specs.Units.{oneNumber}
 use Rattle.markov.specs.Elimination.{Ops}
 
 -- the pair that stands where there is no number
 abbrev pub noNumber : Scaled
 noNumber = record { m = 1; e = pos 0 }
+
+-- x is a scaled number
+abbrev pub Fit : Scaled → Type 0
+Fit x = isScaled x ≡ true
 
 abbrev pub settle : Rounded → Scaled
 settle (Number x) = x

@@ -1,41 +1,42 @@
 ghost use mathlib.Core.Path.{_≡_};
-ghost use mathlib.Core.Bool.{true};
-ghost use Prim.Native.Nat.{ℕ, suc, _+_, _*_, _-_, _<_, _≤_};
+ghost use Prim.Native.Nat.{ℕ, _+_, _*_, _-_, _<_, _≤_};
 ghost use Rattle.scaled.specs.declared.Scaled.{Scaled};
 ghost use lib.ListN.{length, set};
-ghost use Rattle.markov.specs.Elimination.{total, weights};
-ghost use Rattle.scaled.specs.Scaled.{isScaled};
-ghost use Rattle.kernel.specs.Numbers.{ops, settle, plus, times, dividedBy, numberAt, entryAt};
-ghost use Rattle.kernel.specs.Kernel.{Square, Put, Mapped, pivotAt, Quotients, updated, Known, KnownPart, Ready, Updated, Standing, Stepped, Eliminated, Sized, flowAt, Placed, Holds, Backed, shareOf, totalOf, Shared};
-use scaled::Rounded;
+ghost use Rattle.markov.specs.Elimination.{weights};
+ghost use Rattle.markov.specs.Promises.{AllFit};
+ghost use Rattle.kernel.specs.Numbers.{ops, Fit, plus, times, dividedBy, numberAt, entryAt};
+ghost use Rattle.kernel.specs.Kernel.{Square, Put, Mapped, pivotAt, SumsFit, updated, Ready, Updated, Standing, Stepped, StagesFit, Eliminated};
+ghost use Rattle.kernel.specs.Kernel.{Sized, flowAt, FlowFits, Placed, Holds, Backed, shareOf, totalOf, SharesFit};
 use scaled::Scaled;
 
-// Where there is no number, a pair that is none: every operation on it gives none again.
-fn settled(r: Rounded) -> Scaled
-    ensures { λ x. ⌜ x ≡ settle r ⌝ }
-{
-    match r {
-        Rounded::Number(x) => x,
-        Rounded::None => Scaled { m: 1, e: 0 },
-    }
-}
-
+// The operations, where the result is known to be a scaled number.
 fn plus_of(a: Scaled, b: Scaled) -> Scaled
+    requires { ⌜ Fit (plus a b) ⌝ }
     ensures { λ r. ⌜ r ≡ plus a b ⌝ }
 {
-    settled(scaled::sum(a, b))
+    scaled::wide_sum(a, b)
 }
 
 fn times_of(a: Scaled, b: Scaled) -> Scaled
+    requires { ⌜ Fit (times a b) ⌝ }
     ensures { λ r. ⌜ r ≡ times a b ⌝ }
 {
-    settled(scaled::product(a, b))
+    scaled::wide_product(a, b)
 }
 
 fn over_of(a: Scaled, b: Scaled) -> Scaled
+    requires { ⌜ Fit (dividedBy a b) ⌝ }
     ensures { λ r. ⌜ r ≡ dividedBy a b ⌝ }
 {
-    settled(scaled::quotient(a, b))
+    scaled::wide_quotient(a, b)
+}
+
+// x plus a times t.
+fn plus_times_of(x: Scaled, a: Scaled, t: Scaled) -> Scaled
+    requires { ⌜ Fit (plus x (times a t)) ⌝ }
+    ensures { λ r. ⌜ r ≡ plus x (times a t) ⌝ }
+{
+    scaled::add_product(x, a, t)
 }
 
 // The number at a place of the slices.
@@ -75,6 +76,7 @@ fn entry(m: &[u32], e: &[i32], n: usize, i: usize, j: usize) -> Scaled
 // The pivot of step k: the sum of the entries (k, j), j rising from k + 1.
 fn pivot(m: &[u32], e: &[i32], n: usize, k: usize) -> Scaled
     requires { ⌜ Square n (now m) (now e) ⌝ }
+    requires { ⌜ SumsFit (n - (k + 1)) (λ j. entryAt n (now m) (now e) k (k + 1 + j)) ⌝ }
     requires { ⌜ k < n ⌝ }
     ensures { λ r. ⌜ r ≡ pivotAt n (now (m .entry)) (now (e .entry)) k ⌝ }
 {
@@ -97,63 +99,39 @@ pub fn put(m: &mut [u32], e: &mut [i32], n: usize, i: usize, j: usize, x: Scaled
     store(m, e, at, x);
 }
 
-// t(j) in place of entry (k, j); answers whether it is a scaled number.
-fn quotient_at(m: &mut [u32], e: &mut [i32], n: usize, k: usize, s: Scaled, j: usize) -> bool
+// t(j) in place of entry (k, j).
+fn quotient_at(m: &mut [u32], e: &mut [i32], n: usize, k: usize, s: Scaled, j: usize)
     requires { ⌜ Square n (now m) (now e) ⌝ }
     requires { ⌜ (k < n) × (j < n) ⌝ }
-    ensures put { λ r. ⌜ Put n k j (dividedBy (entryAt n (now (m .entry)) (now (e .entry)) k j) s) (now (m .entry)) (now (e .entry)) (now (m .exit)) (now (e .exit)) ⌝ }
-    ensures number { λ r. ⌜ r ≡ isScaled (dividedBy (entryAt n (now (m .entry)) (now (e .entry)) k j) s) ⌝ }
+    requires { ⌜ Fit (dividedBy (entryAt n (now m) (now e) k j) s) ⌝ }
+    ensures { λ _. ⌜ Put n k j (dividedBy (entryAt n (now (m .entry)) (now (e .entry)) k j) s) (now (m .entry)) (now (e .entry)) (now (m .exit)) (now (e .exit)) ⌝ }
 {
     let t = over_of(entry(m, e, n, k, j), s);
     put(m, e, n, k, j, t);
-    scaled::is_scaled(t)
 }
 
-// The quotients t(j), j above k; answers whether each is a scaled number.
-fn quotients(m: &mut [u32], e: &mut [i32], n: usize, k: usize, s: Scaled) -> bool
+// The quotients t(j), j above k.
+fn quotients(m: &mut [u32], e: &mut [i32], n: usize, k: usize, s: Scaled)
     requires { ⌜ Square n (now m) (now e) ⌝ }
     requires { ⌜ k < n ⌝ }
-    ensures { λ r. ⌜ Quotients n k s (now (m .entry)) (now (e .entry)) r (now (m .exit)) (now (e .exit)) ⌝ }
+    requires { ⌜ ((b : ℕ) → k < b → b < n → Fit (dividedBy (entryAt n (now m) (now e) k b) s)) ⌝ }
+    ensures { λ _. ⌜ Mapped n k (k + 1) n (λ b. dividedBy (entryAt n (now (m .entry)) (now (e .entry)) k b) s) (now (m .entry)) (now (e .entry)) (now (m .exit)) (now (e .exit)) ⌝ }
 {
-    let mut whole = true;
     let mut j = k + 1;
     while j < n {
-        if !quotient_at(m, e, n, k, s, j) {
-            whole = false;
-        }
+        quotient_at(m, e, n, k, s, j);
         j += 1;
     }
-    whole
-}
-
-// x plus a times t; `known` says that the operands need no test.
-fn plus_times_of(x: Scaled, a: Scaled, t: Scaled, known: bool) -> Scaled
-    requires { ⌜ Known known x a t ⌝ }
-    ensures { λ r. ⌜ r ≡ plus x (times a t) ⌝ }
-{
-    if known {
-        return settled(scaled::add_product(x, a, t));
-    }
-    plus_of(x, times_of(a, t))
 }
 
 // Adds a times t(j) to entry (i, j).
-fn update_at(
-    m: &mut [u32],
-    e: &mut [i32],
-    n: usize,
-    k: usize,
-    i: usize,
-    a: Scaled,
-    known: bool,
-    j: usize,
-)
+fn update_at(m: &mut [u32], e: &mut [i32], n: usize, k: usize, i: usize, a: Scaled, j: usize)
     requires { ⌜ Square n (now m) (now e) ⌝ }
     requires { ⌜ (k < n) × (i < n) × (j < n) ⌝ }
-    requires { ⌜ Known known (entryAt n (now m) (now e) i j) a (entryAt n (now m) (now e) k j) ⌝ }
+    requires { ⌜ Fit (plus (entryAt n (now m) (now e) i j) (times a (entryAt n (now m) (now e) k j))) ⌝ }
     ensures { λ _. ⌜ Put n i j (plus (entryAt n (now (m .entry)) (now (e .entry)) i j) (times a (entryAt n (now (m .entry)) (now (e .entry)) k j))) (now (m .entry)) (now (e .entry)) (now (m .exit)) (now (e .exit)) ⌝ }
 {
-    let x = plus_times_of(entry(m, e, n, i, j), a, entry(m, e, n, k, j), known);
+    let x = plus_times_of(entry(m, e, n, i, j), a, entry(m, e, n, k, j));
     put(m, e, n, i, j, x);
 }
 
@@ -165,60 +143,59 @@ fn update_part(
     k: usize,
     i: usize,
     a: Scaled,
-    known: bool,
     from: usize,
     to: usize,
 )
     requires { ⌜ Square n (now m) (now e) ⌝ }
     requires { ⌜ (k < i) × (i < n) × (k < from) × (to ≤ n) × (from ≤ to) × (a ≡ entryAt n (now m) (now e) i k) ⌝ }
-    requires { ⌜ KnownPart n k i from to known a (now m) (now e) ⌝ }
+    requires { ⌜ ((b : ℕ) → from ≤ b → b < to → Fit (updated n (now m) (now e) k i b)) ⌝ }
     ensures { λ _. ⌜ Mapped n i from to (λ b. updated n (now (m .entry)) (now (e .entry)) k i b) (now (m .entry)) (now (e .entry)) (now (m .exit)) (now (e .exit)) ⌝ }
 {
     let mut j = from;
     while j < to {
-        update_at(m, e, n, k, i, a, known, j);
+        update_at(m, e, n, k, i, a, j);
         j += 1;
     }
 }
 
-// Whether every t(j) is a scaled number, as `whole` says, and a is one too.
-fn known_of(whole: bool, a: Scaled) -> bool
-    ensures { λ r. ⌜ (r ≡ true → (whole ≡ true) × (isScaled a ≡ true)) ⌝ }
-{
-    if whole {
-        return scaled::is_scaled(a);
-    }
-    false
-}
-
-// Updates row i: entry (i, k) times t(j) is added to entry (i, j), j above k and not i. Where entry (i, k) is Zero and every t(j) is
-// a scaled number, that changes nothing.
-fn update_row(m: &mut [u32], e: &mut [i32], n: usize, k: usize, i: usize, whole: bool)
-    requires { ⌜ Ready n k i whole (now m) (now e) ⌝ }
+// Updates row i: entry (i, k) times t(j) is added to entry (i, j), j above k and not i.
+fn update_row(m: &mut [u32], e: &mut [i32], n: usize, k: usize, i: usize)
+    requires { ⌜ Ready n k i (now m) (now e) ⌝ }
     requires { ⌜ (k < i) × (i < n) ⌝ }
     ensures { λ _. ⌜ Updated n k i (i + 1) (now (m .entry)) (now (e .entry)) (now (m .exit)) (now (e .exit)) ⌝ }
 {
     let a = entry(m, e, n, i, k);
-    if whole {
-        if a.m == 0 {
-            return;
-        }
-    }
-    let known = known_of(whole, a);
-    update_part(m, e, n, k, i, a, known, k + 1, i);
-    update_part(m, e, n, k, i, a, known, i + 1, n);
+    update_part(m, e, n, k, i, a, k + 1, i);
+    update_part(m, e, n, k, i, a, i + 1, n);
 }
 
-// Updates the rows below row k.
-fn update_rows(m: &mut [u32], e: &mut [i32], n: usize, k: usize, whole: bool)
-    requires { ⌜ Ready n k (k + 1) whole (now m) (now e) ⌝ }
+// The first row from `from` on whose entry in column k is not Zero, or n.
+fn next_row(m: &[u32], e: &[i32], n: usize, k: usize, from: usize) -> usize
+    requires { ⌜ Square n (now m) (now e) ⌝ }
+    requires { ⌜ (k < n) × (from ≤ n) ⌝ }
+    ensures { λ r. ⌜ (from ≤ r) × (r ≤ n) × ((a : ℕ) → from ≤ a → a < r → entryAt n (now (m .entry)) (now (e .entry)) a k .m ≡ 0) ⌝ }
+{
+    let mut i = from;
+    while i < n {
+        let a = entry(m, e, n, i, k);
+        if 0 < a.m {
+            return i;
+        }
+        i += 1;
+    }
+    i
+}
+
+// Updates the rows below row k. A row whose entry in column k is Zero stays as it is.
+fn update_rows(m: &mut [u32], e: &mut [i32], n: usize, k: usize)
+    requires { ⌜ Ready n k (k + 1) (now m) (now e) ⌝ }
     requires { ⌜ k < n ⌝ }
     ensures { λ _. ⌜ Updated n k (k + 1) n (now (m .entry)) (now (e .entry)) (now (m .exit)) (now (e .exit)) ⌝ }
 {
-    let mut i = k + 1;
+    let mut i = next_row(m, e, n, k, k + 1);
     while i < n {
-        update_row(m, e, n, k, i, whole);
-        i += 1;
+        update_row(m, e, n, k, i);
+        i = next_row(m, e, n, k, i + 1);
     }
 }
 
@@ -230,13 +207,14 @@ fn step(m: &mut [u32], e: &mut [i32], n: usize, k: usize)
 {
     let s = pivot(m, e, n, k);
     put(m, e, n, k, k, s);
-    let whole = quotients(m, e, n, k, s);
-    update_rows(m, e, n, k, whole);
+    quotients(m, e, n, k, s);
+    update_rows(m, e, n, k);
 }
 
 // The elimination: the pivots stand on the diagonal, and each column below its pivot as it stood at that step.
 fn eliminate(m: &mut [u32], e: &mut [i32], n: usize)
-    requires { ⌜ Standing n 0 (now m) (now e) ⌝ }
+    requires { ⌜ Square n (now m) (now e) ⌝ }
+    requires { ⌜ StagesFit n (entryAt n (now m) (now e)) ⌝ }
     requires { ⌜ 0 < n ⌝ }
     ensures { λ _. ⌜ Eliminated n (n - 1) (entryAt n (now (m .entry)) (now (e .entry))) (now (m .exit)) (now (e .exit)) ⌝ }
     ensures { λ _. ⌜ Square n (now (m .exit)) (now (e .exit)) ⌝ }
@@ -260,6 +238,7 @@ fn place(m: &mut [u32], e: &mut [i32], at: usize, x: Scaled)
 fn flow(m: &[u32], e: &[i32], n: usize, wm: &[u32], we: &[i32], k: usize) -> Scaled
     requires { ⌜ Square n (now m) (now e) ⌝ }
     requires { ⌜ Sized n (now wm) (now we) ⌝ }
+    requires { ⌜ SumsFit (n - (k + 1)) (λ j. times (numberAt (now wm) (now we) (k + 1 + j)) (entryAt n (now m) (now e) (k + 1 + j) k)) ⌝ }
     requires { ⌜ k < n ⌝ }
     ensures { λ r. ⌜ r ≡ flowAt n (now (m .entry)) (now (e .entry)) (now (wm .entry)) (now (we .entry)) k ⌝ }
 {
@@ -276,6 +255,7 @@ fn flow(m: &[u32], e: &[i32], n: usize, wm: &[u32], we: &[i32], k: usize) -> Sca
 fn back_at(m: &[u32], e: &[i32], n: usize, wm: &mut [u32], we: &mut [i32], k: usize)
     requires { ⌜ Square n (now m) (now e) ⌝ }
     requires { ⌜ Sized n (now wm) (now we) ⌝ }
+    requires { ⌜ FlowFits n (now m) (now e) (now wm) (now we) k ⌝ }
     requires { ⌜ k < n ⌝ }
     ensures { λ _. ⌜ Placed k (dividedBy (flowAt n (now (m .entry)) (now (e .entry)) (now (wm .entry)) (now (we .entry)) k) (entryAt n (now (m .entry)) (now (e .entry)) k k)) (now (wm .entry)) (now (we .entry)) (now (wm .exit)) (now (we .exit)) ⌝ }
 {
@@ -306,7 +286,8 @@ fn back(m: &[u32], e: &[i32], n: usize, wm: &mut [u32], we: &mut [i32])
 
 // The elimination and the weights. The pivots are left on the diagonal of the matrix.
 pub fn weigh(m: &mut [u32], e: &mut [i32], n: usize, wm: &mut [u32], we: &mut [i32])
-    requires { ⌜ Standing n 0 (now m) (now e) ⌝ }
+    requires { ⌜ Square n (now m) (now e) ⌝ }
+    requires { ⌜ AllFit ops Fit (n - 1) (entryAt n (now m) (now e)) ⌝ }
     requires { ⌜ Sized n (now wm) (now we) ⌝ }
     requires { ⌜ 0 < n ⌝ }
     ensures { λ _. ⌜ Holds n (weights ops (n - 1) (entryAt n (now (m .entry)) (now (e .entry)))) (now (wm .exit)) (now (we .exit)) ⌝ }
@@ -318,6 +299,7 @@ pub fn weigh(m: &mut [u32], e: &mut [i32], n: usize, wm: &mut [u32], we: &mut [i
 // The sum of the weights, from state 0 up.
 fn total_weight(wm: &[u32], we: &[i32], n: usize) -> Scaled
     requires { ⌜ Sized n (now wm) (now we) ⌝ }
+    requires { ⌜ SumsFit n (λ i. numberAt (now wm) (now we) i) ⌝ }
     ensures { λ r. ⌜ r ≡ totalOf n (now (wm .entry)) (now (we .entry)) ⌝ }
 {
     let mut s = Scaled { m: 0, e: 0 };
@@ -329,31 +311,27 @@ fn total_weight(wm: &[u32], we: &[i32], n: usize) -> Scaled
     s
 }
 
-// Share k; answers whether it is a scaled number.
-fn share_at(wm: &[u32], we: &[i32], t: Scaled, k: usize, sm: &mut [u32], se: &mut [i32]) -> bool
+// Share k.
+fn share_at(wm: &[u32], we: &[i32], t: Scaled, k: usize, sm: &mut [u32], se: &mut [i32])
     requires { ⌜ (k < length (now wm)) × (k < length (now we)) × (k < length (now sm)) × (k < length (now se)) ⌝ }
-    ensures put { λ r. ⌜ Placed k (shareOf (now (wm .entry)) (now (we .entry)) t k) (now (sm .entry)) (now (se .entry)) (now (sm .exit)) (now (se .exit)) ⌝ }
-    ensures number { λ r. ⌜ r ≡ isScaled (shareOf (now (wm .entry)) (now (we .entry)) t k) ⌝ }
+    requires { ⌜ Fit (shareOf (now wm) (now we) t k) ⌝ }
+    ensures { λ _. ⌜ Placed k (shareOf (now (wm .entry)) (now (we .entry)) t k) (now (sm .entry)) (now (se .entry)) (now (sm .exit)) (now (se .exit)) ⌝ }
 {
     let x = over_of(load(wm, we, k), t);
     place(sm, se, k, x);
-    scaled::is_scaled(x)
 }
 
-// The shares; answers whether each is a scaled number.
-pub fn share(wm: &[u32], we: &[i32], n: usize, sm: &mut [u32], se: &mut [i32]) -> bool
+// The shares.
+pub fn share(wm: &[u32], we: &[i32], n: usize, sm: &mut [u32], se: &mut [i32])
     requires { ⌜ Sized n (now wm) (now we) ⌝ }
+    requires { ⌜ SharesFit n (now wm) (now we) ⌝ }
     requires { ⌜ Sized n (now sm) (now se) ⌝ }
-    ensures { λ r. ⌜ Shared n (now (wm .entry)) (now (we .entry)) r (now (sm .exit)) (now (se .exit)) ⌝ }
+    ensures { λ _. ⌜ Holds n (shareOf (now (wm .entry)) (now (we .entry)) (totalOf n (now (wm .entry)) (now (we .entry)))) (now (sm .exit)) (now (se .exit)) ⌝ }
 {
     let t = total_weight(wm, we, n);
-    let mut whole = true;
     let mut k = 0;
     while k < n {
-        if !share_at(wm, we, t, k, sm, se) {
-            whole = false;
-        }
+        share_at(wm, we, t, k, sm, se);
         k += 1;
     }
-    whole
 }

@@ -18,10 +18,10 @@ module _ {X : Type 0} (O : Ops X) where
   total-cong zero h = refl
   total-cong (suc n) h = ap₂ (O .add) (total-cong n (λ i l. h i (omega arith))) (h n (omega arith))
 
-  row-cong : (r : ℕ) {a b : ℕ → ℕ → X} → Agree r a b → (j : ℕ) → j < r → a zero (suc j) ≡ b zero (suc j)
+  pub row-cong : (r : ℕ) {a b : ℕ → ℕ → X} → Agree r a b → (j : ℕ) → j < r → a zero (suc j) ≡ b zero (suc j)
   row-cong r h j l = h zero (suc j) (omega arith) (suc-le-suc l) (λ e. omega arith)
 
-  column-cong : (r : ℕ) {a b : ℕ → ℕ → X} → Agree r a b → (i : ℕ) → i < r → a (suc i) zero ≡ b (suc i) zero
+  pub column-cong : (r : ℕ) {a b : ℕ → ℕ → X} → Agree r a b → (i : ℕ) → i < r → a (suc i) zero ≡ b (suc i) zero
   column-cong r h i l = h (suc i) zero (suc-le-suc l) (omega arith) (λ e. omega arith)
 
   pub pivot-cong : (r : ℕ) {a b : ℕ → ℕ → X} → Agree r a b → pivotOf O r a ≡ pivotOf O r b

@@ -17,6 +17,7 @@ use Rattle.markov.specs.Promises.{Promises, AllFit, AllFitShares}
 use Rattle.markov.proofs.Bound.{vals, own-bound, own-bound-absolute}
 use Rattle.markov.proofs.Compare.{weight-scale}
 use Rattle.markov.proofs.CountLaws.{positives-le, elimination-count-le}
+use Rattle.markov.proofs.FitMaps.{all-weights-fit}
 use Rattle.markov.proofs.Positive.{weight-pos, pos-left}
 use Rattle.markov.proofs.Rounding.{total-near}
 use Rattle.markov.proofs.Step.{has-answer-of}
@@ -33,18 +34,14 @@ share-near {F} {k} {d} {all} one n z w v p h t share i l q =
     let c : Near F (1 + k) (z * (share * all)) (one * (one * v i)) = near-trans (near-scale z q) (near-eq (near-scale one (h i l)) (omega arith) refl) in
     near-cancel p (near-eq (near-more (omega arith) (near-trans a (near-trans b c))) (omega arith) refl)
 
-all-weights-fit : {X : Type 0} (O : Ops X) (Fit : X → Type 0) (r : ℕ) (a : ℕ → ℕ → X) → AllFit O Fit r a → (i : ℕ) → i < suc r → Fit (weights O r a i)
-unfolding weights
-all-weights-fit O Fit zero a h i l = h
-all-weights-fit O Fit (suc r) a h i l = h .1 .weights-fit i l
-
 module _ {F : Factor} {X : Type 0} {O : Ops X} {one : ℕ} {val : X → ℕ} {Fit : X → Type 0} (P : Promises F O one val Fit)
     (r : ℕ) (a : ℕ → ℕ → X) (rate : Rates) (filled : (i j : ℕ) → i < suc r → j < suc r → i ≢ j → val (a i j) ≡ rate i j * one)
     (c : HasAnswer (suc r) rate) where
-  filled-answer : HasAnswer (suc r) (vals val a)
+  -- the matrix holds the chain in units
+  pub filled-answer : HasAnswer (suc r) (vals val a)
   filled-answer = has-answer-of (λ i j li lj d q. rw (filled i j li lj d) (mul-pos q (P .one-pos))) c
 
-  filled-weight : (i : ℕ) → i < suc r → weight (suc r) (vals val a) i ≡ one ^ r * weight (suc r) rate i
+  pub filled-weight : (i : ℕ) → i < suc r → weight (suc r) (vals val a) i ≡ one ^ r * weight (suc r) rate i
   filled-weight i l = weight-scale r rate (vals val a) i one l (λ u v hu hv d. filled u v hu hv d ∙ mul-comm (rate u v) one)
 
   module _ (h : AllFit O Fit r a) where

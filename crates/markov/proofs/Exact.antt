@@ -1,24 +1,24 @@
 -- Exact arithmetic keeps all promises, so the error bound is not empty; and it keeps them with the factor 1, so the elimination in
 -- exact arithmetic gives the exact weights. Assumes nothing.
-use mathlib.Core.Path.{_≡_, refl, ap, _∙_}
+use mathlib.Core.Path.{_≡_, refl, _∙_}
 use mathlib.Core.Logic.{_≢_}
 use mathlib.Core.Bool.{Bool, true, false, cond}
 use Prim.Native.Nat.{ℕ, zero, suc, _*_, _/_, _<_}
-use native.Mathlib.Nat.{le-refl, le-antisymm, zero-add, add-zero, mul-comm, mul-one, mul-div-cancel}
+use native.Mathlib.Nat.{le-refl, le-antisymm, zero-add, add-zero, mul-comm, mul-one}
 use native.Mathlib.Omega.{arith}
 use lib.Dec.{eqb}
-use borrow.Author.Tests.{eq-eqb, eqb-true}
+use borrow.Author.Tests.{eqb-true}
 use Rattle.factors.specs.Near.{Factor, Near}
 use Rattle.factors.proofs.NearLaws.{near-same, near-eq}
 use Rattle.markov.specs.Chain.{Rates, HasAnswer}
 use Rattle.markov.specs.Weight.{weight}
 use Rattle.markov.specs.Elimination.{weights}
-use Rattle.markov.specs.Promises.{Added, Promises, AllFit, Strict}
+use Rattle.markov.specs.Promises.{Added, Promises, AllFit}
 use Rattle.markov.proofs.Sums.{one-pow}
 use Rattle.markov.proofs.ExactNumbers.{Num, number, none, units, IsNumber, fraction, plus, times, over, exact}
 use Rattle.markov.proofs.EliminationBound.{elimination-bound}
 
--- a fraction that is a number is right; and what divides, divides itself
+-- a fraction that is a number is right
 fraction-is : (p q : ℕ) → IsNumber (fraction p q) → units (fraction p q) * q ≡ p
 unfolding fraction
 fraction-is p zero f = absurd f
@@ -27,11 +27,6 @@ fraction-is p (suc q) f = go (eqb (p / suc q * suc q) p) refl f
     go : (t : Bool) → eqb (p / suc q * suc q) p ≡ t → IsNumber (cond t (number (p / suc q)) none) → units (cond t (number (p / suc q)) none) * suc q ≡ p
     go true e f = eqb-true (p / suc q * suc q) p e
     go false e f = absurd f
-
-fraction-self : (one p q : ℕ) → IsNumber (fraction p q) → IsNumber (fraction (one * q) q)
-unfolding fraction
-fraction-self one p zero f = absurd f
-fraction-self one p (suc q) f = rw (eq-eqb (one * suc q / suc q * suc q) (one * suc q) (ap (λ (x : ℕ). x * suc q) (mul-div-cancel one (omega arith)))) tt
 
 module _ (F : Factor) (one : ℕ) (pos : zero < one) where
   added : (x y : Num) → IsNumber x → IsNumber y → IsNumber (plus x y) → Added F (units x) (units y) (units (plus x y))
@@ -52,34 +47,6 @@ module _ (F : Factor) (one : ℕ) (pos : zero < one) where
   pub exact-promises : Promises F (exact one) one units IsNumber
   unfolding exact
   exact-promises = record { one-pos = pos; nought-is = refl; unit-is = refl; added = added; multiplied = multiplied; divided = divided }
-
-pub exact-strict : (one : ℕ) → Strict (exact one) IsNumber
-unfolding exact
-exact-strict one = record { add-both = add-both; mul-both = mul-both; div-both = div-both; div-self = div-self; nought-add = nought-add }
-  where
-    add-both : (x y : Num) → IsNumber (plus x y) → IsNumber x × IsNumber y
-    add-both none y f = absurd f
-    add-both (number x) none f = absurd f
-    add-both (number x) (number y) f = (tt, tt)
-
-    mul-both : (x y : Num) → IsNumber (times one x y) → IsNumber x × IsNumber y
-    mul-both none y f = absurd f
-    mul-both (number x) none f = absurd f
-    mul-both (number x) (number y) f = (tt, tt)
-
-    div-both : (x y : Num) → IsNumber (over one x y) → IsNumber x × IsNumber y
-    div-both none y f = absurd f
-    div-both (number x) none f = absurd f
-    div-both (number x) (number y) f = (tt, tt)
-
-    div-self : (x y : Num) → IsNumber (over one x y) → IsNumber (over one y y)
-    div-self none y f = absurd f
-    div-self (number x) none f = absurd f
-    div-self (number x) (number y) f = fraction-self one (one * x) y f
-
-    nought-add : (x : Num) → IsNumber x → plus (number 0) x ≡ x
-    nought-add none f = absurd f
-    nought-add (number x) f = ap number (zero-add x)
 
 -- ---- the factor 1
 

@@ -15,8 +15,9 @@ pub mod CountLaws
 pub mod Perturb
 pub mod Rounding
 pub mod Bound
+pub mod FitMaps
 pub mod EliminationBound
-pub mod Sticky
 pub mod Diagonal
+pub mod DiagonalFits
 pub mod Exact
 pub mod CasesBound

@@ -14,11 +14,8 @@ use Rattle.markov.specs.Weight.{weight}
 use Rattle.markov.proofs.Balance.{weight-balanced}
 use Rattle.markov.proofs.Compare.{weight-scale, weight-near}
 use Rattle.markov.proofs.Step.{pivot, reduced, into-zero, pivot-pos, reduced-has-answer, has-answer-of}
+use Rattle.markov.proofs.Positive.{pos-right}
 use Rattle.markov.proofs.Absolute.{absolute-step}
-
-pos-right : (s x : ℕ) → zero < s * x → zero < x
-pos-right s zero h = omega arith
-pos-right s (suc x) h = omega arith
 
 -- h is the reduced chain of g, divided by the pivot, with entries within d factors
 module _ {F : Factor} (r : ℕ) (g h : Rates) {d : ℕ}

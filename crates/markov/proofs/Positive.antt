@@ -21,6 +21,10 @@ pub pos-left : (x k : ℕ) → 0 < x * k → 0 < x
 pos-left zero k h = absurd (omega arith)
 pos-left (suc x) k h = omega arith
 
+pub pos-right : (k x : ℕ) → 0 < k * x → 0 < x
+pos-right k zero h = omega arith
+pos-right k (suc x) h = omega arith
+
 -- along a positive move, by the balance
 spread : (n : ℕ) (g : Rates) {u i : ℕ} → u < n → Reaches n g u i → 0 < weight n g u → 0 < weight n g i
 spread n g hu here p = p

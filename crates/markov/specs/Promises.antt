@@ -48,12 +48,3 @@ module _ {X : Type 0} (O : Ops X) (Fit : X → Type 0) where
     pub elimination : AllFit r a
     pub sums : (k : ℕ) → k ≤ suc r → Fit (total O k (weights O r a))
     pub shares-fit : (i : ℕ) → i < suc r → Fit (shares O r a i)
-
-  -- What a refusal needs: an operation has no result where an operand has none, a divisor divides itself, and Zero plus a number
-  -- is that number. Then the shares tell whether all numbers met fit.
-  pub record Strict : Type 0 where
-    pub add-both : (x y : X) → Fit (O .add x y) → Fit x × Fit y
-    pub mul-both : (x y : X) → Fit (O .mul x y) → Fit x × Fit y
-    pub div-both : (x y : X) → Fit (O .div x y) → Fit x × Fit y
-    pub div-self : (x y : X) → Fit (O .div x y) → Fit (O .div y y)
-    pub nought-add : (x : X) → Fit x → O .add (O .nought) x ≡ x

@@ -135,14 +135,29 @@ fn first_clear(row: u64, n: usize) -> usize
     j
 }
 
+// The same where `clear` is the answer for a mask `known`: an equal mask is not searched again.
+fn first_clear_as(row: u64, known: u64, clear: usize, n: usize) -> usize
+    requires { ⌜ n ≤ 64 ⌝ }
+    requires { ⌜ clear ≡ first (λ j. not (stands known j)) 0 n ⌝ }
+    ensures { λ r. ⌜ r ≡ first (λ j. not (stands row j)) 0 n ⌝ }
+{
+    if row == known {
+        return clear;
+    }
+    first_clear(row, n)
+}
+
 // Refusal 6, from the masks: the lowest state that does not reach some other, then the lowest that it does not reach.
+// Where the chain has an answer, all masks are equal.
 fn check_reached(masks: Masks, n: usize, entries: usize) -> Outcome
     requires { ⌜ n ≤ 64 ⌝ }
     ensures { λ r. ⌜ verdict r ≡ allReached n (bits (masks .rows)) entries ⌝ }
 {
+    let known = masks.rows[0];
+    let clear = first_clear(known, n);
     let mut from = 0;
     while from < n {
-        let to = first_clear(masks.rows[from], n);
+        let to = first_clear_as(masks.rows[from], known, clear, n);
         if to < n {
             return Outcome::Refused(Refusal::Chain(ChainReason::Unreached(from, to)));
         }

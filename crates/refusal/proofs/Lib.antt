@@ -1,2 +1,3 @@
--- Laws of the first number at which a test holds, and of a choice by a test.
+-- Laws of the table, of the first number at which a test holds, and of a choice by a test.
+pub mod TableLaws
 pub mod FirstLaws

@@ -1,5 +1,7 @@
 -- Document 01, "Reasons for turning an input away": the number and the two places of every refusal, and whose fault it is.
 use Prim.Native.Nat.{ℕ}
+use mathlib.Core.List.{List}
+use lib.Seq.{sets}
 use Rattle.refusal.specs.declared.ChainReason.{ChainReason}
 use Rattle.refusal.specs.declared.ChainReason.the-variants as chain
 use Rattle.refusal.specs.declared.BytesReason.{BytesReason}
@@ -22,7 +24,6 @@ chainLine chain.Starts = numbered 3 0 0
 chainLine (chain.Columns row place) = numbered 4 row place
 chainLine chain.Room = numbered 5 0 0
 chainLine (chain.Unreached from to) = numbered 6 from to
-chainLine chain.Exponent = numbered 7 0 0
 
 -- the table, for stored bytes
 abbrev pub bytesLine : BytesReason → Line
@@ -60,3 +61,9 @@ verdict (Refused r) = refusal r
 abbrev pub andThen : {A B : Type 0} → Verdict A → (A → Verdict B) → Verdict B
 andThen (accepts given) next = next given
 andThen (refuses side line) next = refuses side line
+
+-- a lent slice after an answer: what it is given stands from its first place on and "places beyond keep what they held"; after a
+-- refusal "all memory is unchanged"
+abbrev pub after : {A B : Type 0} → Verdict A → List B → List B → List B
+after (accepts given) old new = sets old 0 new
+after (refuses side line) old new = old

@@ -11,7 +11,6 @@ pub enum ChainReason {
     Room,
     // From, to.
     Unreached(usize, usize),
-    Exponent,
 }
 
 // Why stored bytes are turned away.
@@ -76,11 +75,6 @@ fn chain_line(reason: ChainReason) -> Line
             number: 6,
             first: from,
             second: to,
-        },
-        ChainReason::Exponent => Line {
-            number: 7,
-            first: 0,
-            second: 0,
         },
     }
 }

@@ -1,64 +1,37 @@
 -- The text for an accepted chain has room in 4343 bytes, whatever its weights and shares are. Assumes nothing.
 use Prim.Native.Nat.{ℕ, zero, suc, _+_, _-_, _*_, _^_, _≤_, _<_}
-use mathlib.Core.Bool.{Bool, true, false, cond}
+use mathlib.Core.Bool.{true}
 use mathlib.Core.List.{List}
-use mathlib.Core.Path.{_≡_, refl}
+use mathlib.Core.Logic.{⊎-elim}
+use mathlib.Core.Path.{_≡_, ap}
 use native.Mathlib.Nat.{mul-le-mul}
 use native.Mathlib.Omega.{arith}
-use borrow.Author.Tests.{ltb-true, ltb-false, eqb-true}
-use lib.Dec.{ltb, eqb}
-use lib.IntN.{ℤ, pos, negsuc, natAbs}
+use lib.IntN.{natAbs}
 use lib.ListN.{length, length-append}
 use Rattle.refusal.specs.Table.{accepts}
 use Rattle.markov.specs.Count.{boundCount}
-use Rattle.markov.specs.Elimination.{weights}
-use Rattle.markov.proofs.Sticky.{term-fits}
+use Rattle.markov.proofs.FitMaps.{all-weights-fit}
 use Rattle.scaled.specs.declared.Scaled.{Scaled}
-use Rattle.scaled.specs.Scaled.{inRange, isNought, isScaled, isScaledAt}
+use Rattle.scaled.proofs.Laws.{mantissa-below}
 use Rattle.kernel.specs.Numbers.{ops}
 use Rattle.solver.specs.Load.{entries}
-use Rattle.solver.specs.Solve.{weightsOf, sharesOf, solved, InRange}
-use Rattle.solver.proofs.Operations.{strict}
+use Rattle.solver.specs.Solve.{weightsOf, sharesOf, solved, WellInside, InRange}
 use Rattle.solver.proofs.Acceptance.{accepted-solvable}
 use Rattle.decimal.specs.Lines.{headerLine, stateLine}
 use Rattle.decimal.proofs.LineLengths.{header-length, state-length}
 use Rattle.report.specs.Report.{stateTexts, solvedText}
 
--- ---- a scaled number has few digits
-
-not-first : (b x : Bool) → cond b false x ≡ true → (b ≡ false) × (x ≡ true)
-not-first true x h = let z : _≡_ {A = ℕ} 0 1 = cc in absurd (omega arith)
-not-first false x h = (refl, h)
-
-first-of : (b x : Bool) → cond b x false ≡ true → (b ≡ true) × (x ≡ true)
-first-of true x h = (refl, h)
-first-of false x h = let z : _≡_ {A = ℕ} 0 1 = cc in absurd (omega arith)
-
-range-small : (e : ℤ) → inRange e ≡ true → natAbs e < 100000
-range-small (pos k) h = omega (arith, ltb-false 16383 k (not-first (ltb 16383 k) true h .0))
-range-small (negsuc k) h = omega (arith, ltb-false 16383 k (not-first (ltb 16383 k) true h .0))
-
-nought-small : (e : ℤ) → isNought e ≡ true → natAbs e < 100000
-nought-small (pos k) h =
-    let above = not-first (ltb k 0) (cond (ltb 0 k) false true) h .1 in
-    omega (arith, ltb-false 0 k (not-first (ltb 0 k) true above .0))
-nought-small (negsuc k) h = let z : _≡_ {A = ℕ} 0 1 = cc in absurd (omega arith)
+-- ---- a number well inside the range has few digits
 
 record Small (x : Scaled) : Type 0 where
   m-small : x .m < 2 ^ 32
   e-small : natAbs (x .e) < 100000
 
-scaled-small : (x : Scaled) → isScaled x ≡ true → Small x
-unfolding isScaled isScaledAt
-scaled-small x h = go (eqb (x .m) 0) refl h
-  where
-    go : (b : Bool) → eqb (x .m) 0 ≡ b
-        → cond b (isNought (x .e)) (cond (ltb (x .m) (2 ^ 31)) false (cond (ltb (x .m) (2 * 2 ^ 31)) (inRange (x .e)) false)) ≡ true → Small x
-    go true q t = record { m-small = omega (arith, eqb-true (x .m) 0 q); e-small = nought-small (x .e) t }
-    go false q t =
-        let above = not-first (ltb (x .m) (2 ^ 31)) _ t .1 in
-        let below = first-of (ltb (x .m) (2 * 2 ^ 31)) (inRange (x .e)) above in
-        record { m-small = ltb-true (x .m) (2 * 2 ^ 31) (below .0); e-small = range-small (x .e) (below .1) }
+small : (x : Scaled) → WellInside x → Small x
+small x w = record {
+  m-small = mantissa-below x (w .scaled);
+  e-small = ⊎-elim (λ z. omega (arith, ap (λ (y : Scaled). natAbs (y .e)) z)) (λ l. omega arith) (w .exponent);
+}
 
 -- ---- the lines of the states
 
@@ -90,27 +63,19 @@ count-small (suc n) h =
 
 -- ---- the whole text
 
-module _ (n : ℕ) (starts columns rates : List ℕ) (some : 0 < n) (h : InRange n starts columns rates) where
-  share-fits : (i : ℕ) → i < n → isScaled (sharesOf n starts columns rates i) ≡ true
-  unfolding sharesOf
-  share-fits i l = h .shares-fit i (omega arith)
-
-  weight-fits : (i : ℕ) → i < n → isScaled (weightsOf n starts columns rates i) ≡ true
-  unfolding weightsOf
-  weight-fits i l =
-      term-fits strict (suc (n - 1)) (weights ops (n - 1) (entries starts columns rates)) (h .sums (suc (n - 1)) (omega arith)) i (omega arith)
-
-pub solved-length : (n : ℕ) (starts columns rates : List ℕ) (K : ℕ) → solved n starts columns rates true ≡ accepts K → length (solvedText n starts columns rates) ≤ 4343
-unfolding solvedText
-solved-length n starts columns rates K q =
+pub solved-length : (n : ℕ) (starts columns rates : List ℕ) (K : ℕ) → InRange n starts columns rates → solved n starts columns rates true ≡ accepts K
+    → length (solvedText n starts columns rates) ≤ 4343
+unfolding solvedText weightsOf sharesOf
+solved-length n starts columns rates K inside q =
     let (s, k) = accepted-solvable n starts columns rates true q in
+    let some : 0 < n = s .sound .order .low in
     let order : n ≤ 64 = s .sound .order .high in
-    let few : boundCount n ≤ 8576 * n = count-small n order in
+    let most = count-small n order in
     let first = header-length n K (omega arith) (omega arith) in
     let lines =
     texts-length (weightsOf n starts columns rates) (sharesOf n starts columns rates) n order
-    (λ i l. scaled-small _ (weight-fits n starts columns rates (s .sound .order .low) (s .in-range) i l))
-    (λ i l. scaled-small _ (share-fits n starts columns rates (s .sound .order .low) (s .in-range) i l))
+    (λ i l. small _ (all-weights-fit ops WellInside (n - 1) (entries starts columns rates) (inside .numbers .elimination) i (omega arith)))
+    (λ i l. small _ (inside .numbers .shares-fit i (omega arith)))
     n 0 (omega arith) in
     rw q
     (omega (

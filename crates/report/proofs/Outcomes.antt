@@ -20,7 +20,7 @@ use Rattle.storage.proofs.RoundTrips.{ReadLeft, read-left}
 use Rattle.chain.proofs.Reading.{accepted-sound}
 use Rattle.kernel.proofs.Cells.{square}
 use Rattle.solver.specs.Solve.{weightsOf, sharesOf, roomFor, solved, Solved}
-use Rattle.solver.proofs.Room.{last-se}
+use Rattle.solver.proofs.Room.{last-se, roomy}
 use Rattle.decimal.specs.Lines.{headerLine, refusedLine}
 use Rattle.decimal.specs.Put.{Puts}
 use Rattle.decimal.specs.States.{Results, results, answerText, PutsStates}
@@ -77,11 +77,12 @@ module _ (n : ℕ) (starts columns rates : List ℕ) (m : List ℕ) (e : List �
   answer-text K q =
       let a : verdict r ≡ accepts K = ap verdict q in
       let v : solved n starts columns rates true ≡ accepts K = sym verdict-is ∙ a in
+      let places = roomy _ _ _ _ _ _ _ room in
       let h : Hold n (weightsOf n starts columns rates) (sharesOf n starts columns rates) (results wm′ we′ sm′ se′) = record {
-        wm-is = begins _ n _ (verdict r) K wm wm′ a (s .weight-m);
-        we-is = begins _ n _ (verdict r) K we we′ a (s .weight-e);
-        sm-is = begins _ n _ (verdict r) K sm sm′ a (s .share-m);
-        se-is = begins _ n _ (verdict r) K se se′ a (s .share-e);
+        wm-is = begins _ n _ (verdict r) K wm wm′ (places .for-wm) a (s .weight-m);
+        we-is = begins _ n _ (verdict r) K we we′ (places .for-we) a (s .weight-e);
+        sm-is = begins _ n _ (verdict r) K sm sm′ (places .for-sm) a (s .share-m);
+        se-is = begins _ n _ (verdict r) K se se′ (places .for-se) a (s .share-e);
       } in
       rw v (ap (λ (l : List ℕ). headerLine n K ++ l) (lines-are h n 0 (omega arith)))
 
@@ -90,7 +91,7 @@ module _ (n : ℕ) (starts columns rates : List ℕ) (m : List ℕ) (e : List �
       → Fills out (solvedText n starts columns rates) after count × (count ≤ 4343)
   put-done K q f =
       let t = fills-as (answer-text K q) f in
-      (t, omega (arith, t .size, solved-length n starts columns rates K (sym verdict-is ∙ ap verdict q)))
+      (t, omega (arith, t .size, solved-length n starts columns rates K (s .in-range K (ap verdict q)) (sym verdict-is ∙ ap verdict q)))
 
   -- a refused one
   pub put-stopped : (f : Refusal) → r ≡ outcome.Refused f → {out after : List ℕ} {count : ℕ} → Fills out (refusedText (line f)) after count × (count ≤ 4343)

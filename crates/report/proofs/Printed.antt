@@ -16,7 +16,7 @@ use Rattle.kernel.specs.Numbers.{plus, times, dividedBy}
 use Rattle.storage.specs.Bytes as bytes
 use Rattle.storage.specs.Reading as reading
 use Rattle.solver.specs.Load.{entries}
-use Rattle.solver.specs.Solve.{weightsOf, sharesOf, numbersOnly, solved}
+use Rattle.solver.specs.Solve.{weightsOf, sharesOf, solved}
 use Rattle.decimal.specs.Decimal as decimal
 use Rattle.decimal.specs.Lines.{headerLine, stateLine}
 use Rattle.report.specs.Report.{solvedText, reportOf}
@@ -30,7 +30,7 @@ pub whole : reportOf (2 ∷ 2 ∷ 3 ∷ 0 ∷ 0 ∷ 0 ∷ 1 ∷ 1 ∷ 0 ∷ 0 �
     ∷ 49 ∷ 32 ∷ 50 ∷ 49 ∷ 52 ∷ 55 ∷ 52 ∷ 56 ∷ 51 ∷ 54 ∷ 52 ∷ 56 ∷ 32 ∷ 45 ∷ 51 ∷ 49
     ∷ 32 ∷ 51 ∷ 50 ∷ 50 ∷ 49 ∷ 50 ∷ 50 ∷ 53 ∷ 52 ∷ 55 ∷ 50 ∷ 32 ∷ 45 ∷ 51 ∷ 50 ∷ 10 ∷ []
 unfolding reportOf solvedText headerLine stateLine decimal.signed decimal.decimal decimal.digits
-    solved numbersOnly weightsOf sharesOf entries plus times dividedBy oneNumber
+    solved weightsOf sharesOf entries plus times dividedBy oneNumber
     elimination.weights elimination.shares elimination.total elimination.pivotOf elimination.quotientAt elimination.next
     digitsUpTo digits isScaledAt cut sumAt productAt quotientAt rateAt isScaled sumOf productOf quotientOf rateOf
     all boundCount checked startsSound columnsChecked entryBad rateIn answered allReached via sum

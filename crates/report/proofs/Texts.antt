@@ -5,9 +5,10 @@ use mathlib.Core.Path.{_≡_, refl, ap, ap₂, _∙_}
 use native.Mathlib.Omega.{arith}
 use lib.IntN.{pos}
 use lib.ListN.{length, getD, drop, List·getD-append}
-use Rattle.refusal.specs.Table.{Verdict, accepts}
+use lib.Seq.{sets, sets-eq}
+use Rattle.refusal.specs.Table.{Verdict, accepts, after}
 use Rattle.scaled.specs.declared.Scaled.{Scaled}
-use Rattle.solver.specs.Solve.{table, left}
+use Rattle.solver.specs.Solve.{table}
 use Rattle.solver.proofs.Tables.{table-length, table-at}
 use Rattle.decimal.specs.Lines.{stateLine}
 use Rattle.decimal.specs.States.{Results, lineOf, linesFrom}
@@ -30,10 +31,10 @@ module _ {n : ℕ} {weight share : ℕ → Scaled} {r : Results} (h : Hold n wei
   lines-are (suc count) i l = ap₂ _++_ (line-is i (omega arith)) (lines-are count (i + 1) (omega arith))
 
 -- a result slice after an accepted solving begins with its table
-pub begins : {A : Type 0} (nought : A) (n : ℕ) (f : ℕ → A) (v : Verdict ℕ) (K : ℕ) (old after : List A) → v ≡ accepts K
-    → after ≡ left v nought (table n f) old → (i : ℕ) → i < n → getD after i nought ≡ f i
-begins nought n f v K old after q h i l =
-    let t : after ≡ table n f ++ drop (length (table n f)) old = rw q at h in
-    ap (λ x. getD x i nought) t
-    ∙ List·getD-append (table n f) (drop (length (table n f)) old) nought i (omega (arith, table-length nought n f))
+pub begins : {A : Type 0} (nought : A) (n : ℕ) (f : ℕ → A) (v : Verdict ℕ) (K : ℕ) (old new : List A) → n ≤ length old → v ≡ accepts K
+    → new ≡ after v old (table n f) → (i : ℕ) → i < n → getD new i nought ≡ f i
+begins nought n f v K old new room q h i l =
+    let t : new ≡ sets old 0 (table n f) = rw q at h in
+    ap (λ x. getD x i nought) (t ∙ sets-eq (table n f) old 0 (omega (arith, table-length nought n f)))
+    ∙ List·getD-append (table n f) (drop (0 + length (table n f)) old) nought i (omega (arith, table-length nought n f))
     ∙ table-at nought n f i l

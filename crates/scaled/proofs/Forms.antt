@@ -1,23 +1,22 @@
 -- What the test of an operand tells: Zero, or m of h + 1 digits and e in range. Assumes nothing.
-use mathlib.Core.Path.{_≡_, refl, sym, ap, _∙_}
+use mathlib.Core.Path.{_≡_, refl, sym, _∙_}
 use mathlib.Core.Logic.{⊎-elim}
 use mathlib.Core.Bool.{Bool, true, false, not, false≢true}
-use Prim.Native.Nat.{ℕ, zero, suc, _+_, _*_, _^_, _≤_, _<_}
+use Prim.Native.Nat.{ℕ, zero, suc, _*_, _^_, _≤_, _<_}
 use native.Mathlib.Nat.{eq-zero-or-pos}
 use native.Mathlib.Omega.{arith}
 use lib.Dec.{eqb, ltb}
-use lib.IntN.{ℤ, pos, negsuc, _+ℤ_}
+use lib.IntN.{ℤ, pos, negsuc}
 use lib.Pow.{pow-pos}
-use lib.Signed.{mag, ltZ}
+use lib.Signed.{mag}
 use mir.Syntax.{w32}
 use mir.Val.{toZ, ofZ}
 use borrow.Author.Tests.{lt-ltb, le-ltb, eq-eqb, ne-eqb, not-true, not-false}
 use Rattle.scaled.specs.declared.Scaled.{Scaled}
 use Rattle.scaled.specs.declared.Rounded.{Rounded}
 use Rattle.scaled.specs.declared.Rounded.the-variants.{Number, None}
-use Rattle.scaled.specs.Scaled.{zeroNumber, inRange, isNought, isScaledAt, ofScaled, ranged}
+use Rattle.scaled.specs.Scaled.{zeroNumber, inRange, isNought, isScaledAt, isNumber, ofScaled, ranged}
 use Rattle.scaled.proofs.Signed32.{order, Held, held, stored}
-use Rattle.scaled.proofs.Differences.{sub-negsuc}
 
 pub false-true {ℓ} : {X : Type ℓ} → false ≡ true → X
 false-true e = absurd (false≢true e)
@@ -33,20 +32,6 @@ mag-range (negsuc n) l = rw (le-ltb 16383 n (omega arith))
 -- a test of natural numbers that failed
 pub not-less : (a b : ℕ) → ltb a b ≡ false → b ≤ a
 not-less a b h = ⊎-elim (λ l. l) (λ l. false-true (sym h ∙ lt-ltb a b l)) (order b a)
-
--- below the high end the next exponent is in range, and at the high end it is not
-pub next-small : (e : ℤ) → mag e < 16384 → ltZ e (pos 16383) ≡ true → mag (e +ℤ pos 1) < 16384
-next-small (pos n) l h = ⊎-elim (λ g. false-true (sym (le-ltb n 16383 g) ∙ h)) (λ g. omega arith) (order 16383 n)
-next-small (negsuc zero) l h = omega arith
-next-small (negsuc (suc n)) l h = rw (sub-negsuc 1 (suc (suc n)) n (omega arith)) (omega arith)
-
-pub next-none : (m : ℕ) (e : ℤ) → ltZ e (pos 16383) ≡ false → None ≡ ranged m (e +ℤ pos 1)
-next-none m (pos n) h = simp (lt-ltb 16383 (n + 1) (omega (arith, not-less n 16383 h)))
-next-none m (negsuc n) h = false-true (sym h)
-
--- an exponent in range, as the machine holds it
-pub held-number : {z v : ℤ} (m : ℕ) → Held z v 16384 → Number (record { m = m; e = z }) ≡ ranged m v
-held-number {v = v} m x = ap (λ (z : ℤ). Number (record { m = m; e = z })) (x .is) ∙ simp (mag-range v (x .small))
 
 zero-only : (e : ℤ) → isNought e ≡ true → e ≡ pos 0
 zero-only (pos zero) h = refl
@@ -101,6 +86,18 @@ module _ {h : ℕ} {a : Scaled} where
   pub m-below : Form h a → a .m < 2 * 2 ^ h
   m-below (nought z e) = omega (arith, pow-pos h)
   m-below (more l u r) = u
+
+-- a scaled number is in range
+pub own-number : (h : ℕ) (a : Scaled) → isScaledAt h a ≡ true → ranged (a .m) (a .e) ≡ Number a
+own-number h a s = simp (mag-range (a .e) (e-small (form h a s)))
+
+-- where there is a number, its exponent is in range
+pub known-range : (m : ℕ) (e : ℤ) → isNumber (ranged m e) ≡ true → inRange e ≡ true
+known-range m e = by (inRange e) refl
+  where
+    by : (r : Bool) → inRange e ≡ r → isNumber (ranged m e) ≡ true → inRange e ≡ true
+    by true g h = g
+    by false g h = false-true (simp g at h)
 
 -- an operand that is not scaled, or two that are
 module _ (h : ℕ) (a b : Scaled) (x : Rounded) where

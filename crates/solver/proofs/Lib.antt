@@ -2,6 +2,7 @@
 pub mod Fills
 pub mod Loading
 pub mod Operations
+pub mod Ranges
 pub mod Demands
 pub mod Acceptance
 pub mod Weighing

@@ -238,8 +238,7 @@ fn weigh(
     kernel::weigh(m, e, n, wm, we);
 }
 
-// Solves on slices cut to the needed places, and clears the work places; answers whether every number was in range. Where one was not,
-// the results are 0.
+// Solves on slices cut to the needed places, and clears the work places.
 fn run(
     n: usize,
     starts: &[u32],
@@ -251,19 +250,14 @@ fn run(
     we: &mut [i32],
     sm: &mut [u32],
     se: &mut [i32],
-) -> bool
+)
     requires { ⌜ Weighable n (now starts) (now columns) (now rates) (now m) (now e) (now wm) (now we) ⌝ }
     requires { ⌜ Sized n (now sm) (now se) ⌝ }
-    ensures { λ r. ⌜ Ran n (now (starts .entry)) (now (columns .entry)) (now (rates .entry)) r (now (m .exit)) (now (e .exit)) (now (wm .exit)) (now (we .exit)) (now (sm .exit)) (now (se .exit)) ⌝ }
+    ensures { λ _. ⌜ Ran n (now (starts .entry)) (now (columns .entry)) (now (rates .entry)) (now (m .exit)) (now (e .exit)) (now (wm .exit)) (now (we .exit)) (now (sm .exit)) (now (se .exit)) ⌝ }
 {
     weigh(n, starts, columns, rates, m, e, wm, we);
     clear(m, e);
-    if kernel::share(wm, we, n, sm, se) {
-        return true;
-    }
-    clear(wm, we);
-    clear(sm, se);
-    false
+    kernel::share(wm, we, n, sm, se);
 }
 
 // Whether every lent slice has the needed places.
@@ -290,9 +284,10 @@ fn enough(n: usize, m: usize, e: usize, wm: usize, we: usize, sm: usize, se: usi
     n <= se
 }
 
-// Solves a chain: the weights (m, e) go to wm, we and the shares to sm, se; the answer is the bound count, or the first refusal of 1 to 7.
-// m and e are work places. The contract, `Solved`, holds for any input: it says the answer, every lent place at exit, that the exact
-// weights balance an accepted chain and nothing else does (demand 2), and how near the results are to them (demand 3).
+// Solves a chain: the weights (m, e) go to wm, we and the shares to sm, se; the answer is the bound count, or the first refusal of 1 to 6.
+// m and e are work places. The contract, `Solved`, holds for any input: it says the answer, every lent place at exit, that every
+// number met lies well inside the range (R-7), that the exact weights balance an accepted chain and nothing else does (demand 2), and
+// how near the results are to them (demand 3).
 pub fn solve(
     n: usize,
     starts: &[u32],
@@ -319,7 +314,7 @@ pub fn solve(
         return reached;
     };
     let need = n * n;
-    if run(
+    run(
         n,
         starts,
         columns,
@@ -330,8 +325,6 @@ pub fn solve(
         &mut we[..n],
         &mut sm[..n],
         &mut se[..n],
-    ) {
-        return Outcome::Done(bound_count(n));
-    }
-    Outcome::Refused(Refusal::Chain(ChainReason::Exponent))
+    );
+    Outcome::Done(bound_count(n))
 }

@@ -11,11 +11,11 @@ use lib.Seq.{sets, sets-eq, take-at, drop-at}
 use borrow.Author.Tests.{le-leb, leb-true}
 use Rattle.chain.specs.Rules.{checked}
 use Rattle.chain.proofs.Reading.{accepted-sound, accepted-count, sound-accepted}
-use Rattle.refusal.specs.Table.{Verdict, accepts, verdict}
+use Rattle.refusal.specs.Table.{Verdict, accepts, verdict, after}
 use Rattle.refusal.specs.declared.Outcome.{Outcome}
 use Rattle.storage.specs.declared.Reading.{Reading}
 use Rattle.storage.specs.Bytes.{orderOf, startsOf, columnsOf, ratesOf}
-use Rattle.storage.specs.Reading.{told, fileChecked, after, Read}
+use Rattle.storage.specs.Reading.{told, fileChecked, Read}
 use Rattle.storage.specs.File.{fileOf, fileSize, writeVerdict, Written}
 use Rattle.storage.proofs.Verdicts.{passed, passed-then}
 use Rattle.storage.proofs.Answers.{room-is, read-is, read-room}

@@ -6,10 +6,9 @@ use mathlib.Core.Path.{_≡_}
 use lib.Dec.{eqb, leb}
 use lib.ListN.{length, getD, take, drop}
 use Rattle.chain.specs.Rules.{checked}
-use Rattle.refusal.specs.Table.{Verdict, accepts, refuses, of-chain, numbered, verdict, andThen}
+use Rattle.refusal.specs.Table.{Verdict, accepts, refuses, of-chain, numbered, verdict, andThen, after}
 use Rattle.refusal.specs.declared.Outcome.{Outcome}
 use Rattle.storage.specs.Bytes.{mapBytes}
-use Rattle.storage.specs.Reading.{after}
 
 abbrev pub bit : Bool → ℕ
 bit true = 1

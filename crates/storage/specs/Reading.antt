@@ -6,10 +6,9 @@ use mathlib.Core.List.{List, [], _∷_}
 use mathlib.Core.Path.{_≡_}
 use lib.Dec.{eqb, leb, ltb}
 use lib.ListN.{length, getD}
-use lib.Seq.{sets}
 use Rattle.chain.specs.Rules.{orderSound}
 use Rattle.refusal.specs.First.{first}
-use Rattle.refusal.specs.Table.{Verdict, accepts, refuses, of-bytes, numbered, refusal, andThen}
+use Rattle.refusal.specs.Table.{Verdict, accepts, refuses, of-bytes, numbered, refusal, andThen, after}
 use Rattle.storage.specs.declared.Reading.{Reading}
 use Rattle.storage.specs.declared.Reading.the-variants.{Chain, Refused}
 use Rattle.storage.specs.Bytes.{mapBytes, bitAt, rowColumns, entries, orderOf, startsOf, columnsOf, ratesOf}
@@ -71,12 +70,6 @@ unfoldable pub readVerdict : List ℕ → ℕ → ℕ → ℕ → Verdict (ℕ �
 readVerdict bytes starts columns rates =
     andThen (fileChecked bytes)
     (λ found. cond (roomFor (orderOf bytes) found starts columns rates) (accepts (orderOf bytes, found)) (refused 5 0 0))
-
--- a lent slice after an answer: what it is given stands from its first place on and the places beyond keep what they held;
--- "a refused reading or writing changes nothing"
-abbrev pub after : {A : Type 0} → Verdict A → List ℕ → List ℕ → List ℕ
-after (accepts found) old new = sets old 0 new
-after (refuses side line) old new = old
 
 -- what a reading answers, and the three slices at its exit; bytes-fit is what lent bytes are anyway, named here so that the
 -- theorems on a reading and a writing need no premise

@@ -15,11 +15,11 @@ use Rattle.kernel.specs.Numbers.{plus, times, dividedBy}
 use Rattle.storage.specs.Bytes as bytes
 use Rattle.storage.specs.Reading as reading
 use Rattle.solver.specs.Load.{entries}
-use Rattle.solver.specs.Solve.{weightsOf, sharesOf, numbersOnly, roomFor, solved, table}
+use Rattle.solver.specs.Solve.{weightsOf, sharesOf, roomFor, solved, table}
 use Rattle.worked.specs.Table.{Cases}
 
 pub cases-hold : Cases
-unfolding solved numbersOnly roomFor table weightsOf sharesOf entries plus times dividedBy oneNumber
+unfolding solved roomFor table weightsOf sharesOf entries plus times dividedBy oneNumber
     elimination.weights elimination.shares elimination.total elimination.pivotOf elimination.quotientAt elimination.next
     digitsUpTo digits isScaledAt cut sumAt productAt quotientAt rateAt isScaled sumOf productOf quotientOf rateOf
     weight over sum prod count put leads led all moves boundCount

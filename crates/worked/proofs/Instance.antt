@@ -1,27 +1,35 @@
 -- What the theorems on accepted chains ask holds of case 2, and there demands 2 and 3 say this of its written numbers, so that
 -- those theorems are not empty. Assumes nothing.
-use mathlib.Core.Bool.{true}
 use mathlib.Core.List.{List, [], _∷_}
+use mathlib.Core.Logic.{_≢_}
 use mathlib.Core.Path.{_≡_, refl, ap}
-use Prim.Native.Nat.{ℕ, zero, suc, _*_}
+use Prim.Native.Nat.{ℕ, zero, suc, _*_, _<_}
 use native.Mathlib.Omega.{arith}
+use lib.Dec.{lit<}
 use lib.ListN.{getD}
 use Rattle.factors.specs.Sum.{sum}
 use Rattle.factors.specs.Near.{Near}
 use Rattle.refusal.specs.Table.{accepts}
 use Rattle.scaled.specs.declared.Scaled.{Scaled}
-use Rattle.scaled.specs.Scaled.{zeroNumber, isScaledAt, isScaled}
+use Rattle.scaled.specs.Scaled.{zeroNumber}
 use Rattle.scaled.specs.Units.{val, one, factor}
 use Rattle.markov.specs.Chain.{HasAnswer, Balances}
-use Rattle.markov.specs.Weight.{all, weight}
+use Rattle.markov.specs.Weight.{weight}
+use Rattle.markov.specs.Elimination.{pivotOf}
 use Rattle.markov.specs.Count.{boundCount}
 use Rattle.chain.specs.Rules.{startsSound, entryBad, columnsChecked, checked}
+use Rattle.chain.specs.Sound.{Sound}
 use Rattle.chain.specs.Meaning.{rateIn}
+use Rattle.chain.proofs.Reading.{accepted-sound}
 use Rattle.reach.specs.Reach.{via}
 use Rattle.reach.specs.Answer.{allReached, answered}
 use Rattle.reach.proofs.AnswerLaws.{accepted-answer}
-use Rattle.solver.specs.Solve.{weightsOf, sharesOf, numbersOnly, table, Balancing, Accurate}
+use Rattle.kernel.specs.Numbers.{ops}
+use Rattle.kernel.specs.Kernel.{stage}
+use Rattle.solver.specs.Load.{entries}
+use Rattle.solver.specs.Solve.{weightsOf, sharesOf, table, Balancing, Accurate, InRange}
 use Rattle.solver.proofs.Demands.{balancing, accurate}
+use Rattle.solver.proofs.Ranges.{all-fit, in-range}
 use Rattle.worked.specs.Table.{chain2, rate, scaled, minus}
 use Rattle.worked.proofs.Cases.{cases-hold}
 
@@ -65,9 +73,20 @@ pub has-answer-2 : (checked 2 (chain2 .starts) (chain2 .columns) (chain2 .rates)
 unfolding answered allReached checked startsSound columnsChecked entryBad via rateIn sum
 has-answer-2 = accepted-answer 2 (chain2 .starts) (chain2 .columns) (chain2 .rates) refl
 
-pub numbers-2 : numbersOnly 2 (chain2 .starts) (chain2 .columns) (chain2 .rates) ≡ true
-unfolding numbersOnly all isScaled isScaledAt
-numbers-2 = rw (share-0, share-1) refl
+sound-2 : Sound 2 (chain2 .starts) (chain2 .columns) (chain2 .rates)
+sound-2 = accepted-sound 2 (chain2 .starts) (chain2 .columns) (chain2 .rates) (has-answer-2 .0)
+
+words-2 : (p : ℕ) → getD (chain2 .rates) p 0 < 4294967296
+words-2 = elim [ zero ↦ lit< tt | suc zero ↦ lit< tt | suc (suc p) ↦ lit< tt ]
+
+-- ---- R-7
+
+pub in-range-2 : InRange 2 (chain2 .starts) (chain2 .columns) (chain2 .rates)
+in-range-2 = in-range sound-2 words-2 (has-answer-2 .1)
+
+-- the pivot of its one step is the rate 3, which is not Zero
+pub pivot-2 : pivotOf ops 1 (stage 2 0 (entries (chain2 .starts) (chain2 .columns) (chain2 .rates))) ≢ zeroNumber
+pivot-2 = in-range-2 .pivots 0 (omega arith)
 
 -- ---- demand 2
 
@@ -100,7 +119,7 @@ pub accurate-2 : Accurate 2 (rate chain2) 8
     (weightsOf 2 (chain2 .starts) (chain2 .columns) (chain2 .rates)) (sharesOf 2 (chain2 .starts) (chain2 .columns) (chain2 .rates))
 accurate-2 =
     let bound : boundCount 2 ≡ 8 = cases-hold .case-8 .1 in
-    rw bound at (accurate 2 (chain2 .starts) (chain2 .columns) (chain2 .rates) (omega arith) (has-answer-2 .1) numbers-2)
+    rw bound at (accurate 2 (chain2 .starts) (chain2 .columns) (chain2 .rates) (omega arith) (has-answer-2 .1) (all-fit sound-2 words-2 (has-answer-2 .1)))
 
 -- the computed weights lie within 8 factors of 1 / 3 and 3 / 3
 pub weight-0-near : Near factor 8 (val (scaled 2863311530 (minus 33)) * 3) (one * 1)

@@ -21,9 +21,6 @@ enum-told-4 c = search needs
 enum-known-reason-2 : tie.Need-enum-known-reason-2
 enum-known-reason-2 c = search needs
 
-enum-told-5 : tie.Need-enum-told-5
-enum-told-5 c = search needs
-
 returns : tie.Need-returns
 returns c = rw (c .enum-told .given .1)
 
@@ -42,9 +39,6 @@ returns-5 c = rw (c .enum-told4 .given .1)
 returns-6 : tie.Need-returns-6
 returns-6 c = rw (c .before .reason2 .given .1)
 
-returns-7 : tie.Need-returns-7
-returns-7 c = rw (c .enum-told5 .given .1)
-
 pub chain-line-spec : {M : Type 1} → statement M
 chain-line-spec =
     tie.close
@@ -55,11 +49,9 @@ chain-line-spec =
     enum-known-reason
     enum-told-4
     enum-known-reason-2
-    enum-told-5
     returns
     returns-2
     returns-3
     returns-4
     returns-5
-    returns-6
-    returns-7)
+    returns-6)

@@ -1,5 +1,6 @@
 -- The matrix of all states, its elimination and back substitution. Assumes nothing.
-use Rattle.solver.proofs.Weighing.{loaded-standing, weights-hold}
+use Rattle.solver.proofs.Weighing.{loaded-fits, weights-hold}
+use Rattle.solver.proofs.Ranges.{all-fit}
 use borrow.Author.Needs.{needs}
 use Rattle.solver.proofs.weigh.Statement.{statement}
 use Rattle.solver.proofs.weigh.Tie as tie
@@ -14,10 +15,18 @@ slice-aggregate-load-2 : tie.Need-slice-aggregate-load-2
 slice-aggregate-load-2 c = search needs
 
 load-requires : tie.Need-load-requires
-load-requires c κs = record { sound = c .before .before .before .before .before .before .before .before .before .before .before .before .pre .sound; listed = c .before .before .before .before .before .before .all-states .ensures .1; square = c .before .before .before .before .before .before .before .before .before .before .before .before .pre .square }
+load-requires c κs =
+    let b = c .before .before .before .before .before .before in
+    let p = b .before .before .before .before .before .before .pre in
+    record { sound = p .sound; listed = b .all-states .ensures .1; square = p .square }
 
 weigh-requires : tie.Need-weigh-requires
-weigh-requires c κs = (loaded-standing (c .before .before .before .before .before .before .before .before .before .before .before .before .before .before .before .before .before .before .before .before .pre .sound) (c .before .before .before .before .before .before .before .before .before .before .before .before .before .before .before .before .before .before .before .before .pre .words) (c .before .before .before .before .before .before .before .before .before .before .before .before .before .before .all-states .ensures .2) (c .before .before .before .before .before .before .before .load .ensures), (c .before .before .before .before .before .before .before .before .before .before .before .before .before .before .before .before .before .before .before .before .pre .sized, c .before .before .before .before .before .before .before .before .before .before .before .before .before .before .before .before .before .before .before .before .pre .sound .order .low))
+weigh-requires c κs =
+    let b = c .before .before .before .before .before .before .before in
+    let p = b .before .before .before .before .before .before .before .before .before .before .before .before .before .pre in
+    let own = b .before .before .before .before .before .before .before .all-states .ensures .2 in
+    let fits = loaded-fits (p .sound .order .low) own (b .load .ensures) (all-fit (p .sound) (p .words) (p .answer) .elimination) in
+    (b .load .ensures .square, (fits, (p .sized, p .sound .order .low)))
 
 same-length : tie.Need-same-length
 same-length c = search needs
@@ -32,7 +41,11 @@ same-length-4 : tie.Need-same-length-4
 same-length-4 c = search needs
 
 returns : tie.Need-returns
-returns c = weights-hold (c .before .before .before .before .before .before .before .before .before .before .before .before .before .before .before .before .before .before .before .before .before .before .before .before .before .before .before .pre .sound) (c .before .before .before .before .before .before .before .before .before .before .before .before .before .before .before .before .before .before .before .before .before .before .before .before .before .before .before .pre .words) (c .before .before .before .before .before .before .before .before .before .before .before .before .before .before .before .before .before .before .before .before .before .all-states .ensures .2) (c .before .before .before .before .before .before .before .before .before .before .before .before .before .before .load .ensures) (c .before .before .before .before .before .before .before .before .before .before .before .before .before .before .before .before .before .before .before .before .before .before .before .before .before .before .before .pre .sound .order .low) (c .before .before .before .before .before .before .weigh .ensures)
+returns c =
+    let w = c .before .before .before .before .before .before in
+    let b = w .before .before .before .before .before .before .before .before in
+    let p = b .before .before .before .before .before .before .before .before .before .before .before .before .before .pre in
+    weights-hold (p .sound .order .low) (b .before .before .before .before .before .before .before .all-states .ensures .2) (b .load .ensures) (w .weigh .ensures)
 
 pub weigh-spec : {M : Type 1} → statement M
 weigh-spec =

@@ -1,0 +1,270 @@
+//! Document 01 in plain Rust, nothing proved: scaled numbers, chains in rows and in bytes, the checks and the elimination.
+use std::io::{self, ErrorKind, Read};
+
+pub const MOST: usize = 64;
+
+/// m * 2^e: Zero is (0, 0), any other number has m from 2^31 on.
+#[derive(Clone, Copy, Debug, PartialEq, Eq)]
+pub struct Scaled {
+    pub m: u32,
+    pub e: i32,
+}
+
+impl Scaled {
+    pub const ZERO: Scaled = Scaled { m: 0, e: 0 };
+    const ONE: Scaled = Scaled { m: 1 << 31, e: -31 };
+
+    fn from_rate(rate: u32) -> Scaled {
+        if rate == 0 {
+            return Scaled::ZERO;
+        }
+        let zeros = rate.leading_zeros();
+        Scaled {
+            m: rate << zeros,
+            e: -(zeros as i32),
+        }
+    }
+
+    /// The largest scaled number not above m * 2^e; none where its exponent is outside the range.
+    fn cut(m: u64, e: i32) -> Option<Scaled> {
+        if m == 0 {
+            return Some(Scaled::ZERO);
+        }
+        let zeros = m.leading_zeros();
+        let e = e + 32 - zeros as i32;
+        if !(-16384..=16383).contains(&e) {
+            return None;
+        }
+        let m = (m << zeros >> 32) as u32;
+        Some(Scaled { m, e })
+    }
+
+    fn plus(self, other: Scaled) -> Option<Scaled> {
+        if self.m == 0 {
+            return Some(other);
+        }
+        if other.m == 0 {
+            return Some(self);
+        }
+        let (high, low) = if self.e < other.e {
+            (other, self)
+        } else {
+            (self, other)
+        };
+        let distance = high.e - low.e;
+        if distance > 31 {
+            return Some(high);
+        }
+        Scaled::cut((u64::from(high.m) << distance) + u64::from(low.m), low.e)
+    }
+
+    fn times(self, other: Scaled) -> Option<Scaled> {
+        Scaled::cut(u64::from(self.m) * u64::from(other.m), self.e + other.e)
+    }
+
+    /// None also for a quotient by Zero.
+    fn over(self, other: Scaled) -> Option<Scaled> {
+        let quotient = (u64::from(self.m) << 32).checked_div(u64::from(other.m))?;
+        Scaled::cut(quotient, self.e - other.e - 32)
+    }
+}
+
+/// Why a chain is turned away. No theorem here says that the last never happens.
+#[derive(Debug)]
+#[allow(dead_code)] // the places are read by Debug alone
+pub enum Refusal {
+    Order,
+    Lengths,
+    Starts,
+    Columns { row: usize, place: usize },
+    Room,
+    Unreached { from: usize, to: usize },
+    OutOfRange,
+}
+
+/// A chain in rows: the entries of row i stand at places starts[i] up to, not including, starts[i + 1].
+pub struct Chain {
+    pub n: usize,
+    pub starts: Vec<u32>,
+    pub columns: Vec<u32>,
+    pub rates: Vec<u32>,
+}
+
+impl Chain {
+    /// Reads a stored chain.
+    pub fn read(mut bytes: impl Read) -> io::Result<Chain> {
+        let mut order = [0];
+        bytes.read_exact(&mut order)?;
+        let n = usize::from(order[0]);
+        if n == 0 || n > MOST {
+            return Err(ErrorKind::InvalidData.into());
+        }
+        let mut chain = Chain {
+            n,
+            starts: vec![0],
+            columns: Vec::new(),
+            rates: Vec::new(),
+        };
+        for _ in 0..n {
+            let mut map = [0; 8];
+            bytes.read_exact(&mut map[..n.div_ceil(8)])?;
+            let map = u64::from_le_bytes(map);
+            for column in (0..64).filter(|j| map >> j & 1 == 1) {
+                let mut rate = [0; 4];
+                bytes.read_exact(&mut rate)?;
+                chain.columns.push(column);
+                chain.rates.push(u32::from_le_bytes(rate));
+            }
+            chain.starts.push(chain.columns.len() as u32);
+        }
+        match bytes.read(&mut [0])? {
+            0 => Ok(chain),
+            _ => Err(ErrorKind::InvalidData.into()),
+        }
+    }
+
+    fn check_rules(&self) -> Result<(), Refusal> {
+        if self.n == 0 || self.n > MOST {
+            return Err(Refusal::Order);
+        }
+        if self.columns.len() != self.rates.len() {
+            return Err(Refusal::Lengths);
+        }
+        if self.starts.len() != self.n + 1
+            || self.starts[0] != 0
+            || self.starts.windows(2).any(|pair| pair[1] < pair[0])
+            || self.starts[self.n] as usize != self.columns.len()
+        {
+            return Err(Refusal::Starts);
+        }
+        for row in 0..self.n {
+            let mut least = 0;
+            for place in self.starts[row] as usize..self.starts[row + 1] as usize {
+                let column = self.columns[place] as usize;
+                if column < least || column >= self.n || column == row {
+                    return Err(Refusal::Columns { row, place });
+                }
+                least = column + 1;
+            }
+        }
+        Ok(())
+    }
+
+    /// The columns and rates of row i, for a chain whose rules hold.
+    fn row(&self, i: usize) -> impl Iterator<Item = (usize, u32)> + '_ {
+        let places = self.starts[i] as usize..self.starts[i + 1] as usize;
+        let columns = self.columns[places.clone()].iter();
+        let rates = self.rates[places].iter();
+        columns
+            .zip(rates)
+            .map(|(&column, &rate)| (column as usize, rate))
+    }
+
+    /// Checks that every state reaches every other: bit j of mask i stands if state i reaches state j.
+    fn check_reach(&self) -> Result<(), Refusal> {
+        let mut masks = [0u64; MOST];
+        let masks = &mut masks[..self.n];
+        for (i, mask) in masks.iter_mut().enumerate() {
+            *mask = 1 << i;
+            for (j, rate) in self.row(i) {
+                if rate > 0 {
+                    *mask |= 1 << j;
+                }
+            }
+        }
+        for k in 0..self.n {
+            let through = masks[k];
+            for mask in masks.iter_mut() {
+                if *mask >> k & 1 == 1 {
+                    *mask |= through;
+                }
+            }
+        }
+        for (from, mask) in masks.iter().enumerate() {
+            let to = mask.trailing_ones() as usize;
+            if to < self.n {
+                return Err(Refusal::Unreached { from, to });
+            }
+        }
+        Ok(())
+    }
+}
+
+/// Leaves each pivot on the diagonal, the quotients to its right, and the column below it as it stood at that step.
+fn eliminate(a: &mut [Scaled], n: usize) -> Option<()> {
+    for k in 0..n - 1 {
+        let (upper, lower) = a.split_at_mut((k + 1) * n);
+        let (pivot, quotients) = upper[k * n + k..].split_first_mut()?;
+        *pivot = Scaled::ZERO;
+        for &entry in quotients.iter() {
+            *pivot = pivot.plus(entry)?;
+        }
+        for entry in quotients.iter_mut() {
+            *entry = entry.over(*pivot)?;
+        }
+        for (i, row) in lower.chunks_exact_mut(n).enumerate() {
+            let (&mut first, rest) = row[k..].split_first_mut()?;
+            if first == Scaled::ZERO {
+                continue;
+            }
+            for (j, (entry, &t)) in rest.iter_mut().zip(quotients.iter()).enumerate() {
+                if i != j {
+                    *entry = entry.plus(first.times(t)?)?;
+                }
+            }
+        }
+    }
+    Some(())
+}
+
+/// The weights, from the last state down.
+fn weigh(a: &[Scaled], n: usize, weights: &mut [Scaled]) -> Option<()> {
+    weights[n - 1] = Scaled::ONE;
+    for k in (0..n - 1).rev() {
+        let mut flow = Scaled::ZERO;
+        for j in k + 1..n {
+            flow = flow.plus(weights[j].times(a[j * n + k])?)?;
+        }
+        weights[k] = flow.over(a[k * n + k])?;
+    }
+    Some(())
+}
+
+fn share(weights: &[Scaled], shares: &mut [Scaled]) -> Option<()> {
+    let mut total = Scaled::ZERO;
+    for &weight in weights {
+        total = total.plus(weight)?;
+    }
+    for (share, &weight) in shares.iter_mut().zip(weights) {
+        *share = weight.over(total)?;
+    }
+    Some(())
+}
+
+/// Solves a chain and answers its bound count; the work places end as Zero.
+pub fn solve(
+    chain: &Chain,
+    work: &mut [Scaled],
+    weights: &mut [Scaled],
+    shares: &mut [Scaled],
+) -> Result<usize, Refusal> {
+    chain.check_rules()?;
+    let n = chain.n;
+    if work.len() < n * n || weights.len() < n || shares.len() < n {
+        return Err(Refusal::Room);
+    }
+    chain.check_reach()?;
+    let (a, weights, shares) = (&mut work[..n * n], &mut weights[..n], &mut shares[..n]);
+    a.fill(Scaled::ZERO);
+    for i in 0..n {
+        for (j, rate) in chain.row(i) {
+            a[i * n + j] = Scaled::from_rate(rate);
+        }
+    }
+    let weighed = eliminate(a, n).and_then(|()| weigh(a, n, weights));
+    a.fill(Scaled::ZERO);
+    match weighed.and_then(|()| share(weights, shares)) {
+        Some(()) => Ok((2 * n * n * n + 6 * n * n - 8 * n) / 3),
+        None => Err(Refusal::OutOfRange),
+    }
+}
