@@ -26,7 +26,7 @@ static uint32_t work_m[4096], weight_m[64], share_m[64];
 static int32_t work_e[4096], weight_e[64], share_e[64];
 static uint8_t out[STALL_MAX_BYTES];
 
-/* The document's case 2: 0 to 1 rate 3, 1 to 0 rate 1. */
+/* Case 2 of docs/FORMAT.md: 0 to 1 rate 3, 1 to 0 rate 1. */
 static const uint8_t case2[] = {2, 2, 3, 0, 0, 0, 1, 1, 0, 0, 0};
 static const uint32_t starts2[] = {0, 1, 2}, columns2[] = {1, 0}, rates2[] = {3, 1};
 
@@ -210,7 +210,8 @@ static void largest(void)
     CHECK(read_fresh(file, sizeof file) == 0 && answer_is(64, STALL_MAX_ENTRIES, 0));
     CHECK(memcmp(starts, s, sizeof s) == 0 && memcmp(columns, c, sizeof c) == 0 && memcmp(rates, r, sizeof r) == 0);
     CHECK(solve_fresh(64, s, 65, c, k, r, k) == 0 && answer_is(182784, 0, 0) && all_zero(work_m, sizeof work_m));
-    CHECK(share_e[0] == -37 || share_e[0] == -38);
+    for (int i = 0; i < 64; i++) /* each share is 1/64 */
+        CHECK(share_m[i] == 2147483648u && share_e[i] == -37);
 }
 
 /* Moves between neighbours of 64 states, up by rate 1, down by the highest: shares down to about 2^-2016. Then the same without the
@@ -237,7 +238,8 @@ static void rarest(void)
         CHECK(weight_m[i] >= 2147483648u && share_m[i] >= 2147483648u);
         /* The exact weight over the last one is (2^32 - 1)^(63 - i), a little below 2^(32 * (63 - i)) but for the last. */
         CHECK(weight_e[i] == (i < 63 ? 32 * (63 - i) - 32 : -31));
-        CHECK(share_e[i] == -32 * i - 31 || share_e[i] == -32 * i - 32);
+        /* The exact share is about 2^(-32 * i); where rounding leaves it is known from the model in tests/. */
+        CHECK(share_e[i] == -32 * i - 31);
     }
     r[last_up] = 0;
     CHECK(solve_fresh(64, s, 65, c, k, r, k) == 6 && answer_is(0, 63, STALL_CHAIN) && results_unchanged());

@@ -1,16 +1,10 @@
-#!/usr/bin/env python3
 """An independent model of chains in rows: refusals 1 to 4 and 6, the row look-up, and the masks of the reached states.
 
 It is written from document 01 alone, with a plain graph search, and shares no code with the crates. It generates the input
-of the program `chain_run`, sound and broken chains, and the lines that the program has to print. Regenerate both with
-
-    python3 tests/chain_model.py
-
-which writes crates/chain_run/stdin and crates/chain_run/stdout. The generator is seeded: the files do not change by themselves.
+of the program crates/chain_run, sound and broken chains, and the lines that the program has to print.
 """
 import random
 import struct
-from pathlib import Path
 
 LARGEST = 2**32 - 1
 
@@ -151,17 +145,12 @@ def chains(rng):
         yield chain[0], rng.randrange(70), *chain[1:]
 
 
-def main():
-    here = Path(__file__).resolve().parent.parent / "crates" / "chain_run"
+def stored():
+    """The standard input and output of crates/chain_run."""
     words, lines = [], []
     for n, row, starts, columns, rates in chains(random.Random(1)):
         assert len(starts) <= 80 and len(columns) <= 4100 and len(rates) <= 4100
         words += [n, row, len(starts), *starts, len(columns), *columns, len(rates), *rates]
         lines.append(line(n, row, starts, columns, rates))
     words = [len(lines), *words]
-    (here / "stdin").write_bytes(struct.pack(f"<{len(words)}I", *words))
-    (here / "stdout").write_text("".join(text + "\n" for text in lines))
-
-
-if __name__ == "__main__":
-    main()
+    return struct.pack(f"<{len(words)}I", *words), "".join(text + "\n" for text in lines).encode()

@@ -6,7 +6,7 @@ every result of an operation passes `within_range`.
 """
 from chain_model import reached, rows_of
 from scaled_model import ZERO, product_of, quotient_of, rate_of, sum_of
-from storage_model import Refused, read
+from stored_chain import Refused, read
 
 ONE = (2**31, -31)
 

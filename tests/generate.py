@@ -2,7 +2,7 @@
 import math
 import random
 
-from storage_model import LONGEST_FILE, map_bytes, write
+from stored_chain import LONGEST_FILE, map_bytes, write
 
 TOP = 2**32 - 1
 

@@ -1,8 +1,5 @@
-#!/usr/bin/env python3
-"""A model of document 01's scaled numbers in exact whole numbers, independent of the proved code.
+"""A model of document 01's scaled numbers in exact whole numbers, independent of the proved code, and what crates/scaled_run prints.
 
-It writes what the program crates/scaled_run must print:
-    python3 tests/scaled_model.py > crates/scaled_run/stdout
 Only the generator of operands follows the program; sum, product, quotient and rates follow document 01's sentences.
 """
 from fractions import Fraction
@@ -87,7 +84,7 @@ def shown(r):
     return "none" if r is None else f"{r[0]} {r[1]}"
 
 
-def main():
+def lines():
     s = 20240131
     for i in range(400):
         s1 = following(s)
@@ -95,11 +92,12 @@ def main():
         s3 = following(s2)
         s = following(s3)
         a, b = (mantissa(s1), exponent(s2)), (mantissa(s3), exponent(s))
-        print(shown(a), shown(b), shown(sum_of(a, b)), shown(product_of(a, b)), shown(quotient_of(a, b)))
+        yield " ".join(map(shown, (a, b, sum_of(a, b), product_of(a, b), quotient_of(a, b))))
         if i % 4 == 0:
             x = s >> (s % 32)
-            print(x, shown(rate_of(x)))
+            yield f"{x} {shown(rate_of(x))}"
 
 
-if __name__ == "__main__":
-    main()
+def stored():
+    """The standard input and output of crates/scaled_run."""
+    return b"", "".join(line + "\n" for line in lines()).encode()

@@ -1,6 +1,4 @@
 """Checks of the models themselves: document 01's worked cases, definitions against definitions, and known slips found."""
-import importlib.machinery
-import importlib.util
 import random
 import subprocess
 import sys
@@ -13,9 +11,10 @@ from elimination_model import bound_count, eliminate, first_unreached, printed
 from exact_solver import FACTOR, at_most_times, balances, weights_by_minors, weights_by_trees
 from generate import sound, stored
 from scaled_model import ZERO, is_scaled, product_of, quotient_of, rate_of, sum_of, value
-from storage_model import read, write
+from shares_view import guaranteed, relative, rounded
+from stored_chain import read, write
 
-HERE = Path(__file__).resolve().parent
+ROOT = Path(__file__).resolve().parent.parent
 
 
 def worked_cases():
@@ -87,7 +86,10 @@ def factors():
     for c in (0, 1, 2, 8, 200):
         assert at_most_times(num**c, den**c, c) and not at_most_times(num**c + 1, den**c, c)
     assert Fraction(den + 8, den) < Fraction(num, den) ** 8
-    return "the edge of c factors"
+    for c in (1, 18, 406, 2000):
+        error = Fraction(num, den) ** c - 1
+        assert error < Fraction(relative(c)) < error * Fraction(11, 10), c
+    return "the edge of c factors, and the relative error that the tools name for it"
 
 
 def round_trip(rng, many=200):
@@ -99,32 +101,29 @@ def round_trip(rng, many=200):
 
 def examples():
     """Every text among the examples is the source of the stored chain beside it, and unpacking gives the same chain again."""
-    root, many = HERE.parent, 0
-    for text in sorted((root / "examples").glob("*.txt")):
+    many = 0
+    for text in sorted((ROOT / "examples").glob("*.txt")):
         chain = text.with_suffix(".chain")
         with tempfile.TemporaryDirectory() as folder:
             again, packed = Path(folder, "again.txt"), Path(folder, "packed.chain")
             for source in (text, again):
-                subprocess.run([root / "tools" / "chain", "pack", source, packed], check=True, stdout=subprocess.DEVNULL)
+                subprocess.run([ROOT / "tools" / "chain", "pack", source, packed], check=True, stdout=subprocess.DEVNULL)
                 assert packed.read_bytes() == chain.read_bytes(), text.name
-                subprocess.run([root / "tools" / "chain", "unpack", packed, again, "--names", text], check=True)
+                subprocess.run([ROOT / "tools" / "chain", "unpack", packed, again, "--names", text], check=True)
         many += 1
     return f"{many} example texts packed and unpacked"
 
 
 def digits(seed=1, most=200):
     """The digits that tools/chain shows for a computed share are the exact share's own, correctly rounded."""
-    loader = importlib.machinery.SourceFileLoader("chain_tool", str(HERE.parent / "tools" / "chain"))
-    tool = importlib.util.module_from_spec(importlib.util.spec_from_loader("chain_tool", loader))
-    loader.exec_module(tool)
     states = 0
     for data in (stored(seed, i) for i in range(most)):
         lines = printed(data).splitlines()
         if lines[0].startswith("states"):
             exact, count = weights_by_minors(read(data)), 2 * int(lines[0].split()[3]) + len(lines) - 1
             for line, weight in zip(lines[1:], exact):
-                whole, power = tool.guaranteed(value(tuple(map(int, line.split()[3:]))), count)
-                assert tool.rounded(Fraction(weight, sum(exact)), len(str(whole))) == (whole, power), line
+                whole, power = guaranteed(value(tuple(map(int, line.split()[3:]))), count)
+                assert rounded(Fraction(weight, sum(exact)), len(str(whole))) == (whole, power), line
                 states += 1
     return f"the digits that tools/chain shows for {states} shares"
 
@@ -158,12 +157,12 @@ SLIPS = (
 
 def models_with(old, new):
     """printed() of the models with one edit of their text."""
-    parts = ("scaled_model", "chain_model", "storage_model", "elimination_model")
-    text = "\n".join((HERE / f"{part}.py").read_text(encoding="utf-8") for part in parts)
+    parts = ("tests/scaled_model", "tests/chain_model", "python/stored_chain", "tests/elimination_model")
+    text = "\n".join((ROOT / f"{part}.py").read_text(encoding="utf-8") for part in parts)
     assert text.count(old) == 1, old
     lines = text.replace(old, new).split("\n")
     edited = {"__name__": "edited"}
-    exec("\n".join(line for line in lines if not line.startswith(tuple(f"from {part}" for part in parts))), edited)
+    exec("\n".join(line for line in lines if not line.startswith(tuple(f"from {Path(part).name}" for part in parts))), edited)
     return edited["printed"]
 
 

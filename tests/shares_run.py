@@ -1,16 +1,13 @@
-#!/usr/bin/env python3
-"""The input and the expected output of crates/shares_run, from the models. Run it by
+"""The input and the expected output of crates/shares and crates/shares_run, from the models.
 
-    python3 tests/shares_run.py
-
-It writes crates/shares_run/stdin (the chains worked on paper that have a file, a file for each refusal that a file can cause,
-and the examples, each after its length in two bytes, low byte first) and crates/shares_run/stdout (the text for each, from
-elimination_model.py).
+shares reads the longest file and one byte more: that it is refused by 10 shows that the program reads one byte beyond the longest
+file. shares_run reads the chains worked on paper that have a file, a file for
+each refusal that a file can cause, and the examples, each after its length in two bytes, low byte first.
 """
 from pathlib import Path
 
 from elimination_model import printed
-from storage_model import write
+from stored_chain import write
 from worked import PRINTED, all_ones
 
 ROOT = Path(__file__).resolve().parent.parent
@@ -30,15 +27,17 @@ def files():
         yield path.read_bytes()
 
 
-def main():
-    crate = ROOT / "crates" / "shares_run"
+def stored_case():
+    """The standard input and output of crates/shares."""
+    data = write(all_ones()) + b"\0"
+    assert len(data) == 16642
+    return data, printed(data).encode()
+
+
+def stored():
+    """The standard input and output of crates/shares_run."""
     made = list(files())
     texts = [printed(data) for data in made]
     numbers = {int(text.split()[1]) for text in texts if text.startswith("refused")}
     assert numbers == {1, 6, 8, 9, 10}
-    crate.joinpath("stdin").write_bytes(b"".join(len(data).to_bytes(2, "little") + data for data in made))
-    crate.joinpath("stdout").write_text("".join(texts))
-
-
-if __name__ == "__main__":
-    main()
+    return b"".join(len(data).to_bytes(2, "little") + data for data in made), "".join(texts).encode()

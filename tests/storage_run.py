@@ -1,29 +1,31 @@
-#!/usr/bin/env python3
-"""The input and the expected output of crates/storage_run, from the model of stored chains (storage_model.py). Run it by
-
-    python3 tests/storage_run.py
-
-It writes crates/storage_run/stdin (a few hundred generated files, each after its length in two bytes, low byte first) and
-crates/storage_run/stdout (one line for each). The seed is fixed, so the files come out the same each time.
-"""
+"""The input and the expected output of crates/storage_run: a few hundred generated files, each after its length in two bytes, low byte
+first, and the lines on each, from stored chains in Python (python/stored_chain.py)."""
 import random
-from pathlib import Path
 
-from storage_model import LONGEST_FILE, Refused, map_bytes, read, write
+from stored_chain import LONGEST_FILE, Refused, map_bytes, read, write
 
 SEED = 20261115
 ORDERS = [1, 2, 3, 4, 5, 7, 8, 9, 10, 15, 16, 17]
 RATES = [0, 1, 3, 255, 256, 65536, 2**31, 2**32 - 1]
 
 
-def line(data):
-    """What the program writes of a file: its chain and whether it is written back the same, or the refusal."""
+def line(data, starts, columns, rates, out):
+    """What the program writes of a file where so many places are lent: its chain and whether it is written back the same, or a refusal."""
     try:
         rows = read(data)
+        order, entries = len(rows), sum(map(len, rows))
+        if starts < order + 1 or min(columns, rates) < entries:
+            raise Refused(5)
     except Refused as refusal:
-        return str(refusal)
-    same = "same" if write(rows) == data else "other"
-    return f"chain {len(rows)} {sum(map(len, rows))} {same}"
+        return f"{refusal}\n"
+    written = write(rows)
+    end = Refused(5) if out < len(written) else "same" if written == data else "other"
+    return f"chain {order} {entries} {end}\n"
+
+
+def lines(data):
+    """With room for every chain, and with less."""
+    return line(data, 65, 4032, 4032, LONGEST_FILE) + line(data, 9, 20, 12, 40)
 
 
 def some_chain(rng, n):
@@ -65,12 +67,7 @@ def files(rng):
         yield bytes([rng.randrange(1, 12)]) + rng.randbytes(rng.randrange(30))
 
 
-def main():
-    crate = Path(__file__).resolve().parent.parent / "crates" / "storage_run"
+def stored():
+    """Its standard input and output."""
     made = list(files(random.Random(SEED)))
-    crate.joinpath("stdin").write_bytes(b"".join(len(data).to_bytes(2, "little") + data for data in made))
-    crate.joinpath("stdout").write_text("".join(line(data) + "\n" for data in made))
-
-
-if __name__ == "__main__":
-    main()
+    return b"".join(len(data).to_bytes(2, "little") + data for data in made), "".join(map(lines, made)).encode()

@@ -7,11 +7,12 @@ use native.Mathlib.Omega.{arith}
 use lib.Dec.{eqb, ltb, leb}
 use lib.ListN.{length, getD}
 use borrow.Author.Tests.{eq-eqb, ne-eqb, lt-ltb, le-ltb, le-leb, lt-leb, leb-true}
-use Rattle.refusal.specs.First.{first}
+use Rattle.basics.specs.First.{first}
 use Rattle.refusal.specs.Table.{accepts, refuses, of-chain, numbered}
-use Rattle.refusal.proofs.FirstLaws.{by-true, by-false, both}
+use Rattle.basics.proofs.BoolLaws.{by-true, by-false, both}
+use Rattle.chain.specs.Rows.{Rows}
 use Rattle.chain.specs.Rules.{orderSound, fallsAt, startsSound, entryBad, firstBad, firstBadRow, columnsChecked}
-use Rattle.chain.proofs.Tests.{and-yes, and-no, and-no-first, and-decides, or-yes, or-yes-first, or-no, or-decides}
+use Rattle.basics.proofs.BoolLaws.{and-yes, and-no, and-no-first, and-decides, or-yes, or-yes-first, or-no, or-decides}
 
 -- ---- 3
 
@@ -52,18 +53,16 @@ module _ (n : ℕ) (columns : List ℕ) (row begin place : ℕ) where
     unfolding entryBad
     entry-later h = or-decides _ _ (or-no _ _ (lt-leb _ _ low) (ne-eqb _ _ other)) ∙ and-decides _ _ (lt-ltb _ _ h)
 
-pub columns-bad : (n : ℕ) (starts columns : List ℕ) (row place : ℕ) → row < n → row ≡ firstBadRow n starts columns
-    → place ≡ firstBad n starts columns row → refuses of-chain (numbered 4 row place) ≡ columnsChecked n starts columns
+pub columns-bad : (c : Rows) (row place : ℕ) → row < c .order → row ≡ firstBadRow c → place ≡ firstBad c row
+    → refuses of-chain (numbered 4 row place) ≡ columnsChecked c
 unfolding columnsChecked
-columns-bad n starts columns row place l e q =
-    by-true _ _ (lt-ltb (firstBadRow n starts columns) n (omega arith))
-    (ap (λ (x : ℕ). refuses of-chain (numbered 4 row x)) q
-    ∙ ap (λ (x : ℕ). refuses of-chain (numbered 4 x (firstBad n starts columns x))) e)
+columns-bad c row place l e q =
+    by-true _ _ (lt-ltb (firstBadRow c) (c .order) (omega arith))
+    (ap (λ (x : ℕ). refuses of-chain (numbered 4 row x)) q ∙ ap (λ (x : ℕ). refuses of-chain (numbered 4 x (firstBad c x))) e)
 
-pub columns-sound : (n : ℕ) (starts columns : List ℕ) (row : ℕ) → n ≤ row → firstBadRow n starts columns ≡ row
-    → accepts (length columns) ≡ columnsChecked n starts columns
+pub columns-sound : (c : Rows) (row : ℕ) → c .order ≤ row → firstBadRow c ≡ row → accepts (length (c .columns)) ≡ columnsChecked c
 unfolding columnsChecked
-columns-sound n starts columns row l e = by-false _ _ (le-ltb (firstBadRow n starts columns) n (omega arith)) refl
+columns-sound c row l e = by-false _ _ (le-ltb (firstBadRow c) (c .order) (omega arith)) refl
 
 -- ---- 1
 

@@ -1,19 +1,20 @@
 -- Each rule's test holds if and only if the rule's facts do; every row lies within the columns. Assumes nothing.
 use Prim.Native.Nat.{ℕ, zero, suc, _+_, _-_, _<_, _≤_}
 use mathlib.Core.Bool.{Bool, true, false, _&&_, _||_}
-use mathlib.Core.List.{List}
 use mathlib.Core.Logic.{⊎-elim}
 use mathlib.Core.Path.{_≡_, refl, _∙_}
 use native.Mathlib.Nat.{eq-or-lt-of-le}
 use native.Mathlib.Omega.{arith}
 use lib.Dec.{eqb, ltb, leb}
-use lib.ListN.{length, getD}
+use lib.ListN.{length}
 use borrow.Author.Tests.{eqb-true, eqb-false, ltb-true, ltb-false, leb-true, leb-false, eq-eqb, le-leb, lt-ltb, lt-leb}
-use Rattle.refusal.specs.First.{first}
-use Rattle.refusal.proofs.FirstLaws.{both, IsFirst, first-is, first-none}
-use Rattle.chain.specs.Rules.{orderSound, fallsAt, startsSound, entryBad}
+use Rattle.basics.specs.First.{first}
+use Rattle.basics.proofs.BoolLaws.{both}
+use Rattle.basics.proofs.FirstLaws.{IsFirst, first-is, first-none}
+use Rattle.chain.specs.Rows.{Rows, begins, ends, columnAt}
+use Rattle.chain.specs.Rules.{orderSound, fallsAt, startsSound, entryBad, badAt}
 use Rattle.chain.specs.Sound.{SoundOrder, SoundStarts, SoundEntry}
-use Rattle.chain.proofs.Tests.{and-yes, neither}
+use Rattle.basics.proofs.BoolLaws.{and-yes, neither}
 use Rattle.chain.proofs.RulesLaws.{starts-end, entry-begin, entry-later}
 
 -- ---- 1
@@ -26,60 +27,59 @@ order-of n h = and-yes _ _ (lt-ltb _ _ (h .low)) (le-leb _ _ (h .high))
 
 -- ---- 3
 
-module _ (n : ℕ) (starts : List ℕ) (k : ℕ) where
-  pub starts-true : startsSound n starts k ≡ true → SoundStarts n starts k
+module _ (c : Rows) where
+  pub starts-true : startsSound (c .order) (c .starts) (length (c .columns)) ≡ true → SoundStarts c
   unfolding startsSound
   starts-true h =
-      let c = both (eqb (length starts) (n + 1) && eqb (getD starts 0 0) 0 && eqb (first (fallsAt starts) 0 n) n) _ h in
-      let b = both (eqb (length starts) (n + 1) && eqb (getD starts 0 0) 0) _ (c .0) in
-      let a = both (eqb (length starts) (n + 1)) _ (b .0) in
+      let z = both (eqb (length (c .starts)) (c .order + 1) && eqb (begins c 0) 0 && eqb (first (fallsAt (c .starts)) 0 (c .order)) (c .order)) _ h in
+      let y = both (eqb (length (c .starts)) (c .order + 1) && eqb (begins c 0) 0) _ (z .0) in
+      let x = both (eqb (length (c .starts)) (c .order + 1)) _ (y .0) in
       record {
-        count = eqb-true _ _ (a .0);
-        first = eqb-true _ _ (a .1);
-        rises = λ i l. ltb-false _ _ (first-none _ 0 n (omega arith) (eqb-true _ _ (b .1)) i (omega arith) l);
-        last = eqb-true _ _ (c .1);
+        count = eqb-true _ _ (x .0);
+        first = eqb-true _ _ (x .1);
+        rises = λ i l. ltb-false _ _ (first-none _ 0 (c .order) (omega arith) (eqb-true _ _ (y .1)) i (omega arith) l);
+        last = eqb-true _ _ (z .1);
       }
 
-  pub starts-of : SoundStarts n starts k → startsSound n starts k ≡ true
-  starts-of h = starts-end n starts k (h .count) (h .first) no-fall ∙ eq-eqb _ _ (h .last)
+  pub starts-of : SoundStarts c → startsSound (c .order) (c .starts) (length (c .columns)) ≡ true
+  starts-of h = starts-end _ _ _ (h .count) (h .first) no-fall ∙ eq-eqb _ _ (h .last)
     where
-      search : IsFirst (fallsAt starts) 0 n (first (fallsAt starts) 0 n)
-      search = first-is (fallsAt starts) 0 n (omega arith)
+      fall : ℕ
+      fall = first (fallsAt (c .starts)) 0 (c .order)
 
-      stop : first (fallsAt starts) 0 n < n → ⊥
-      stop l =
-          let f = first (fallsAt starts) 0 n in
-          let z : getD starts (f + 1) 0 < getD starts f 0 = ltb-true _ _ (search .found l) in
-          omega (arith, h .rises f l)
+      search : IsFirst (fallsAt (c .starts)) 0 (c .order) fall
+      search = first-is (fallsAt (c .starts)) 0 (c .order) (omega arith)
 
-      no-fall : first (fallsAt starts) 0 n ≡ n
+      stop : fall < c .order → ⊥
+      stop l = let z : ends c fall < begins c fall = ltb-true _ _ (search .found l) in omega (arith, h .rises fall l)
+
+      no-fall : fall ≡ c .order
       no-fall = ⊎-elim (λ e. e) (λ l. absurd (stop l)) (eq-or-lt-of-le (search .high))
 
--- what rises up to place n is not above the last
-up : (starts : List ℕ) (n : ℕ) → ((i : ℕ) → i < n → getD starts i 0 ≤ getD starts (i + 1) 0) → (d i : ℕ) → i + d ≡ n
-    → getD starts i 0 ≤ getD starts n 0
-up starts n r zero i e = let q : i ≡ n = omega arith in rw q (omega arith)
-up starts n r (suc d) i e = omega (arith, r i (omega arith), up starts n r d (i + 1) (omega arith))
+-- the starts rise to the last one
+up : {c : Rows} → SoundStarts c → (d i : ℕ) → i + d ≡ c .order → begins c i ≤ begins c (c .order)
+up {c} h zero i e = let q : i ≡ c .order = omega arith in rw q (omega arith)
+up h (suc d) i e = omega (arith, h .rises i (omega arith), up h d (i + 1) (omega arith))
 
--- every start lies within the columns
-pub start-within : {n : ℕ} {starts : List ℕ} {k : ℕ} → SoundStarts n starts k → (i : ℕ) → i ≤ n → getD starts i 0 ≤ k
-start-within {n} {starts} h i l = omega (arith, up starts n (h .rises) (n - i) i (omega arith), h .last)
+-- so every start lies within the columns
+pub start-within : {c : Rows} → SoundStarts c → (i : ℕ) → i ≤ c .order → begins c i ≤ length (c .columns)
+start-within {c} h i l = omega (arith, up h (c .order - i) i (omega arith), h .last)
 
 -- ---- 4
 
-module _ (n : ℕ) (columns : List ℕ) (row begin place : ℕ) where
-  pub entry-false : entryBad n columns row begin place ≡ false → SoundEntry n columns row begin place
+module _ (c : Rows) (row place : ℕ) where
+  pub entry-false : badAt c row place ≡ false → SoundEntry c row place
   unfolding entryBad
   entry-false h =
-      let b = neither (leb n (getD columns place 0) || eqb (getD columns place 0) row) _ h in
-      let a = neither (leb n (getD columns place 0)) _ (b .0) in
+      let b = neither (leb (c .order) (columnAt c place) || eqb (columnAt c place) row) _ h in
+      let a = neither (leb (c .order) (columnAt c place)) _ (b .0) in
       record { below = leb-false _ _ (a .0); not-row = eqb-false _ _ (a .1); above = λ l. leb-false _ _ (rw (lt-ltb _ _ l) at (b .1)) }
 
-  pub entry-of : SoundEntry n columns row begin place → entryBad n columns row begin place ≡ false
-  entry-of h = at-begin (ltb begin place) refl
+  pub entry-of : SoundEntry c row place → badAt c row place ≡ false
+  entry-of h = at-begin (ltb (begins c row) place) refl
     where
-      at-begin : (b : Bool) → ltb begin place ≡ b → entryBad n columns row begin place ≡ false
+      at-begin : (b : Bool) → ltb (begins c row) place ≡ b → badAt c row place ≡ false
       at-begin true t =
           let l = ltb-true _ _ t in
-          entry-later n columns row begin place (h .below) (h .not-row) l ∙ lt-leb _ _ (h .above l)
-      at-begin false t = entry-begin n columns row begin place (h .below) (h .not-row) (ltb-false _ _ t)
+          entry-later _ _ _ _ _ (h .below) (h .not-row) l ∙ lt-leb _ _ (h .above l)
+      at-begin false t = entry-begin _ _ _ _ _ (h .below) (h .not-row) (ltb-false _ _ t)

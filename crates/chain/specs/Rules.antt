@@ -1,12 +1,12 @@
--- Document 01, "A chain in rows": the rules of a chain of order n with the lists starts, columns and rates, and the refusals
--- 1 to 4 of one that breaks them. Entries of row i stand at places starts[i] up to, not including, starts[i + 1].
+-- Document 01, "A chain in rows": the rules of a chain, and the refusals 1 to 4 of one that breaks them.
 use Prim.Native.Nat.{ℕ, _+_, _-_}
 use mathlib.Core.Bool.{Bool, cond, _&&_, _||_}
 use mathlib.Core.List.{List}
 use lib.ListN.{length, getD}
 use lib.Dec.{ltb, leb, eqb}
-use Rattle.refusal.specs.First.{first}
+use Rattle.basics.specs.First.{first}
 use Rattle.refusal.specs.Table.{Verdict, accepts, refuses, of-chain, numbered}
+use Rattle.chain.specs.Rows.{Rows, begins, ends}
 
 -- 1: "n (1 to 64 states)"
 abbrev pub orderSound : ℕ → Bool
@@ -27,31 +27,34 @@ unfoldable pub entryBad : ℕ → List ℕ → ℕ → ℕ → ℕ → Bool
 entryBad n columns row begin place =
     leb n (getD columns place 0) || eqb (getD columns place 0) row || (ltb begin place && leb (getD columns place 0) (getD columns (place - 1) 0))
 
--- the place of the first bad entry of a row, or the row's end
-abbrev pub firstBad : ℕ → List ℕ → List ℕ → ℕ → ℕ
-firstBad n starts columns row = first (entryBad n columns row (getD starts row 0)) (getD starts row 0) (getD starts (row + 1) 0)
+abbrev pub badAt : Rows → ℕ → ℕ → Bool
+badAt c row place = entryBad (c .order) (c .columns) row (begins c row) place
 
-abbrev pub rowBad : ℕ → List ℕ → List ℕ → ℕ → Bool
-rowBad n starts columns row = ltb (firstBad n starts columns row) (getD starts (row + 1) 0)
+-- the place of the first bad entry of a row, or the row's end
+abbrev pub firstBad : Rows → ℕ → ℕ
+firstBad c row = first (badAt c row) (begins c row) (ends c row)
+
+abbrev pub rowBad : Rows → ℕ → Bool
+rowBad c row = ltb (firstBad c row) (ends c row)
 
 -- the first row with a bad entry, or n
-abbrev pub firstBadRow : ℕ → List ℕ → List ℕ → ℕ
-firstBadRow n starts columns = first (rowBad n starts columns) 0 n
+abbrev pub firstBadRow : Rows → ℕ
+firstBadRow c = first (rowBad c) 0 (c .order)
 
 -- 4, with the row and the entry place of the first bad entry
-unfoldable pub columnsChecked : ℕ → List ℕ → List ℕ → Verdict ℕ
-columnsChecked n starts columns =
-    cond (ltb (firstBadRow n starts columns) n)
-    (refuses of-chain (numbered 4 (firstBadRow n starts columns) (firstBad n starts columns (firstBadRow n starts columns))))
-    (accepts (length columns))
+unfoldable pub columnsChecked : Rows → Verdict ℕ
+columnsChecked c =
+    cond (ltb (firstBadRow c) (c .order))
+    (refuses of-chain (numbered 4 (firstBadRow c) (firstBad c (firstBadRow c))))
+    (accepts (length (c .columns)))
 
 -- the first of 1 to 4 that is broken, or the number of entries
-unfoldable pub checked : ℕ → List ℕ → List ℕ → List ℕ → Verdict ℕ
-checked n starts columns rates =
-    cond (orderSound n)
-    (cond (eqb (length columns) (length rates))
-    (cond (startsSound n starts (length columns))
-    (columnsChecked n starts columns)
+unfoldable pub checked : Rows → Verdict ℕ
+checked c =
+    cond (orderSound (c .order))
+    (cond (eqb (length (c .columns)) (length (c .rates)))
+    (cond (startsSound (c .order) (c .starts) (length (c .columns)))
+    (columnsChecked c)
     (refuses of-chain (numbered 3 0 0)))
     (refuses of-chain (numbered 2 0 0)))
     (refuses of-chain (numbered 1 0 0))

@@ -1,12 +1,15 @@
 // Chains in rows: the checks 1 to 4 and the row look-up.
 ghost use mathlib.Core.Path.{_≡_};
 ghost use mathlib.Core.Bool.{true};
-ghost use Prim.Native.Nat.{_<_, _≤_};
+ghost use mathlib.Core.List.{List};
+ghost use Prim.Native.Nat.{ℕ, _<_, _≤_};
 ghost use lib.ListN.{length};
-ghost use Rattle.refusal.specs.First.{first};
+ghost use Rattle.basics.specs.First.{first};
 ghost use Rattle.refusal.specs.Table.{verdict};
+ghost use Rattle.chain.specs.Rows.{rows, inRows};
 ghost use Rattle.chain.specs.Rules.{orderSound, fallsAt, startsSound, entryBad, columnsChecked, checked};
-ghost use Rattle.chain.specs.Row.{rowRates};
+ghost use Rattle.chain.specs.Sound.{Says};
+ghost use Rattle.chain.specs.Row.{rowPart, rowRates, standsAt};
 use refusal::ChainReason;
 use refusal::Outcome;
 use refusal::Refusal;
@@ -90,7 +93,7 @@ fn first_bad(n: usize, columns: &[u32], row: usize, begin: usize, end: usize) ->
 // The first entry, row by row, that breaks a rule of the columns, or the number of entries.
 fn check_columns(n: usize, starts: &[u32], columns: &[u32]) -> Outcome
     requires { ⌜ (n ≤ 64) × (startsSound n (now starts) (length (now columns)) ≡ true) ⌝ }
-    ensures { λ r. ⌜ verdict r ≡ columnsChecked n (now (starts .entry)) (now (columns .entry)) ⌝ }
+    ensures { λ r. ⌜ ((rates : List ℕ) → verdict r ≡ columnsChecked (rows n (now (starts .entry)) (now (columns .entry)) rates)) ⌝ }
 {
     let mut row = 0;
     while row < n {
@@ -105,10 +108,11 @@ fn check_columns(n: usize, starts: &[u32], columns: &[u32]) -> Outcome
     Outcome::Done(columns.len())
 }
 
-// The first of the rules 1 to 4 that is broken, or the number of entries. What each verdict says of the chain, as plain facts:
-// `Says`, by `checked-says` and `says-checked` of proofs/Reading.
+// The first of the rules 1 to 4 that is broken, or the number of entries, and what that says of the chain. No other verdict has
+// facts that hold: `says-checked` of proofs/Reading.
 pub fn check(n: usize, starts: &[u32], columns: &[u32], rates: &[u32]) -> Outcome
-    ensures { λ r. ⌜ verdict r ≡ checked n (now (starts .entry)) (now (columns .entry)) (now (rates .entry)) ⌝ }
+    ensures computed { λ r. ⌜ verdict r ≡ checked (inRows n (starts .entry) (columns .entry) (rates .entry)) ⌝ }
+    ensures meaning { λ r. ⌜ Says (inRows n (starts .entry) (columns .entry) (rates .entry)) (verdict r) ⌝ }
 {
     if !order_sound(n) {
         return Outcome::Refused(Refusal::Chain(ChainReason::Order));
@@ -130,7 +134,8 @@ pub fn row_rates<'a>(
     rates: &'a [u32],
     row: usize,
 ) -> &'a [u32]
-    ensures { λ r. ⌜ now r ≡ rowRates n (now (starts .entry)) (now (columns .entry)) (now (rates .entry)) row ⌝ }
+    ensures content { λ r. ⌜ now r ≡ rowRates (inRows n (starts .entry) (columns .entry) (rates .entry)) row ⌝ }
+    ensures own { λ r. ⌜ r .ptr ≡ standsAt (rates .entry) (rowPart (inRows n (starts .entry) (columns .entry) (rates .entry)) row .0) ⌝ }
 {
     let answer = check(n, starts, columns, rates);
     let Outcome::Done(_) = answer else {

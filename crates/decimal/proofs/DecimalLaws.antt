@@ -1,5 +1,5 @@
--- The decimal text of a number is the right one: it reads back as the number, its bytes are digits, it has no zero in front,
--- and its length is bounded. Assumes nothing.
+-- The decimal text of a number is the right one: it reads back as the number, its bytes are digits, and its length is bounded.
+-- Assumes nothing.
 use Prim.Native.Nat.{ℕ, zero, suc, _+_, _*_, _-_, _/_, _%_, _^_, _≤_, _<_}
 use mathlib.Core.List.{List, [], _∷_, _++_, List·Memᴰ, List·Memᴰ·head, List·Memᴰ·append-cases, List·Memᴰ·eq-of-singleton}
 use mathlib.Core.Logic.{_⊎_, inl, inr, ⊎-elim}
@@ -10,15 +10,15 @@ use native.Mathlib.Nat.{mod-lt, div-eq-of-lt, div-lt-iff-lt-mul, le-div-iff-mul-
 use native.Mathlib.Omega.{arith}
 use lib.Dec.{lit<, eqb, ltb}
 use lib.IntN.{ℤ, pos, negsuc, negℤ, natAbs}
-use lib.ListN.{length, getD, length-append, List·getD-append}
+use lib.ListN.{length, length-append}
 use lib.Signed.{mag, natAbs-le}
-use Rattle.decimal.specs.Decimal.{digit, digits, decimal, minus, signed}
+use Rattle.decimal.specs.Decimal.{digit, decimalDigits, decimal, minusSign, signed}
 
 -- ---- the definition, one digit at a time
 
 -- any bound that is at least n gives the same digits
-digits-turns : (j k n : ℕ) → n ≤ j → n ≤ k → digits j n ≡ digits k n
-unfolding digits
+digits-turns : (j k n : ℕ) → n ≤ j → n ≤ k → decimalDigits j n ≡ decimalDigits k n
+unfolding decimalDigits
 digits-turns zero zero n a b = refl
 digits-turns zero (suc k) zero a b = refl
 digits-turns zero (suc k) (suc n) a b = absurd (omega arith)
@@ -29,18 +29,18 @@ digits-turns (suc j) (suc k) (suc n) a b =
     let l : suc n / 10 < suc n = div-lt-self (omega arith) (lit< tt) in
     rw (digits-turns j k (suc n / 10) (omega arith) (omega arith))
 
-digits-decimal : (j n : ℕ) → zero < n → n ≤ j → digits j n ≡ decimal n
+digits-decimal : (j n : ℕ) → zero < n → n ≤ j → decimalDigits j n ≡ decimal n
 unfolding decimal
 digits-decimal j zero p l = absurd (omega arith)
 digits-decimal j (suc n) p l = digits-turns j (suc n) (suc n) l (omega arith)
 
-digits-zero : (j : ℕ) → digits j zero ≡ []
-unfolding digits
+digits-zero : (j : ℕ) → decimalDigits j zero ≡ []
+unfolding decimalDigits
 digits-zero zero = refl
 digits-zero (suc j) = refl
 
 pub decimal-one : (n : ℕ) → n < 10 → decimal n ≡ digit n ∷ []
-unfolding decimal digits
+unfolding decimal decimalDigits
 decimal-one zero l = refl
 decimal-one (suc n) l =
     let q : suc n / 10 ≡ 0 = div-eq-of-lt l in
@@ -48,7 +48,7 @@ decimal-one (suc n) l =
     rw (q, digits-zero n, r)
 
 pub decimal-more : (n : ℕ) → 10 ≤ n → decimal n ≡ decimal (n / 10) ++ (digit (n % 10) ∷ [])
-unfolding decimal digits
+unfolding decimal decimalDigits
 decimal-more zero l = absurd (omega arith)
 decimal-more (suc n) l =
     let q : suc n / 10 < suc n = div-lt-self (omega arith) (lit< tt) in
@@ -102,7 +102,7 @@ decimal-digits = decimal-ind (λ n. (b : ℕ) → List·Memᴰ b (decimal n) →
     one : (d : ℕ) → d < 10 → (b : ℕ) → List·Memᴰ b (digit d ∷ []) → IsDigit b
     one d l b m = let e : b ≡ digit d = List·Memᴰ·eq-of-singleton m in record { low = omega arith; high = omega arith }
 
--- ---- its length and its first byte
+-- ---- its length
 
 pub decimal-length : (k n : ℕ) → n < 10 ^ suc k → length (decimal n) ≤ suc k
 decimal-length zero n l = rw (decimal-one n (omega arith)) (omega arith)
@@ -110,18 +110,6 @@ decimal-length (suc k) n l = ⊎-elim
     (λ s. rw (decimal-one n s) (omega arith))
     (λ h. rw (decimal-more n h, length-append) (omega (arith, decimal-length k (n / 10) (div-lt-iff-lt-mul {k = 10} {x = n} {y = 10 ^ suc k} (lit< tt) .1 (omega (arith, pow-suc 10 (suc k)))))))
     (one-or-more n)
-
-pub decimal-nonempty : (n : ℕ) → zero < length (decimal n)
-decimal-nonempty = decimal-ind (λ n. zero < length (decimal n))
-    (λ n l. rw (decimal-one n l) (omega arith))
-    (λ n l ih. rw (decimal-more n l, length-append) (omega arith))
-
--- no zero in front, unless the number is 0
-pub decimal-first : (n : ℕ) → zero < n → digit 0 < getD (decimal n) 0 0
-decimal-first = decimal-ind (λ n. zero < n → digit 0 < getD (decimal n) 0 0)
-    (λ n l p. rw (decimal-one n l) (omega arith))
-    (λ n l ih p. rw (decimal-more n l, List·getD-append (decimal (n / 10)) (digit (n % 10) ∷ []) 0 0 (decimal-nonempty (n / 10)))
-    (ih (le-div-iff-mul-le {k = 10} {x = 1} {y = n} (lit< tt) .1 (omega arith))))
 
 -- a 64-bit number has at most 20 digits
 pub decimal-64 : (n : ℕ) → n < 2 ^ 64 → length (decimal n) ≤ 20
@@ -132,13 +120,13 @@ decimal-64 n l = decimal-length 19 n (omega arith)
 -- a signed text read back: the sign, then the magnitude
 abbrev pub readSigned : List ℕ → ℤ
 readSigned [] = pos 0
-readSigned (b ∷ bytes) = cond (eqb b minus) (negℤ (pos (readFrom 0 bytes))) (pos (readFrom 0 (b ∷ bytes)))
+readSigned (b ∷ bytes) = cond (eqb b minusSign) (negℤ (pos (readFrom 0 bytes))) (pos (readFrom 0 (b ∷ bytes)))
 
 unsigned : (s : List ℕ) → ((b : ℕ) → List·Memᴰ b s → IsDigit b) → readSigned s ≡ pos (readFrom 0 s)
 unsigned [] h = refl
 unsigned (b ∷ s) h =
     let d : IsDigit b = h b (List·Memᴰ·head refl) in
-    rw (ne-eqb b minus (λ e. omega arith))
+    rw (ne-eqb b minusSign (λ e. omega arith))
 
 pub read-signed : (z : ℤ) → readSigned (signed z) ≡ z
 unfolding signed

@@ -1,8 +1,4 @@
--- Laws of the decimal text, of a text that was put, and of the lines; the printed example.
+-- Laws of the decimal text, and the steps of putting it.
 pub mod DecimalLaws
-pub mod SetsLaws
-pub mod PutLaws
 pub mod Writing
-pub mod LineLengths
-pub mod StatesLaws
 pub mod Cases

@@ -1,37 +1,35 @@
 -- Rows updated one after another, and why rows whose entry in the pivot's column is Zero stay as they are. Assumes nothing.
-use mathlib.Core.List.{List}
 use mathlib.Core.Logic.{_≢_}
+use mathlib.Core.Bool.{true}
 use mathlib.Core.Path.{_≡_, refl, sym, ap, ap₂, subst⁻¹, _∙_}
 use Prim.Native.Nat.{ℕ, _+_, _≤_, _<_}
 use native.Mathlib.Decide.{decLt}
-use native.Mathlib.Nat.{zero-mul}
 use native.Mathlib.Omega.{arith}
-use lib.IntN.{ℤ}
 use Rattle.scaled.specs.declared.Scaled.{Scaled}
-use Rattle.scaled.specs.Scaled.{zeroNumber}
-use Rattle.scaled.specs.Units.{val}
-use Rattle.scaled.proofs.Laws.{zero-of-value, sum-zero-right, product-zero-left}
-use Rattle.kernel.specs.Numbers.{Fit, settle, plus, times, entryAt}
-use Rattle.kernel.specs.Kernel.{Mapped, updated, Ready, Updated}
+use Rattle.scaled.specs.Scaled.{zeroNumber, isZero}
+use Rattle.scaled.proofs.Laws.{zero-of-test, sum-zero-right, product-zero-left}
+use Rattle.kernel.specs.Numbers.{Fit, settle, plus, times}
+use Rattle.kernel.specs.Slices.{Slices, entryAt}
+use Rattle.kernel.specs.Inner.{Mapped, updated, Ready, Updated}
 use Rattle.kernel.proofs.Entries.{kept-none, kept-on, still-square}
 use Rattle.kernel.proofs.Operands.{plus-both, times-both}
 
 -- ---- a product with Zero adds nothing
 
-idle : (a t x : Scaled) → Fit (plus x (times a t)) → a .m ≡ 0 → plus x (times a t) ≡ x
-unfolding plus times val
+idle : (a t x : Scaled) → Fit (plus x (times a t)) → isZero a ≡ true → plus x (times a t) ≡ x
+unfolding plus times
 idle a t x f z =
     let p = plus-both x (times a t) f in
     let q = times-both a t (p .1) in
-    let w : a ≡ zeroNumber = zero-of-value a (q .0) (rw z (zero-mul _)) in
+    let w : a ≡ zeroNumber = zero-of-test a (q .0) z in
     ap (λ (y : Scaled). plus x (times y t)) w ∙ ap (λ (y : Scaled). plus x y) (ap settle (product-zero-left t (q .1))) ∙ ap settle (sum-zero-right x (p .0))
 
-pub rows-idle : {n k from to : ℕ} {m : List ℕ} {e : List ℤ} → to ≤ n → Ready n k from m e → ((a : ℕ) → from ≤ a → a < to → entryAt n m e a k .m ≡ 0)
-    → Updated n k from to m e m e
-rows-idle {n} {k} {m = m} {e = e} h r z = record {
-  kept = kept-none m e;
+pub rows-idle : {n k from to : ℕ} {s : Slices} → to ≤ n → Ready n k from s → ((a : ℕ) → from ≤ a → a < to → isZero (entryAt n s a k) ≡ true)
+    → Updated n k from to s s
+rows-idle {n} {k} {s = s} h r z = record {
+  kept = kept-none s;
   done = λ a b l g hb hn d.
-      sym (idle (entryAt n m e a k) (entryAt n m e k b) (entryAt n m e a b) (r .fits a b l (omega arith) hb hn d) (z a l g));
+      sym (idle (entryAt n s a k) (entryAt n s k b) (entryAt n s a b) (r .fits a b l (omega arith) hb hn d) (z a l g));
   above = λ a b l ha hb. refl;
   below = λ a b l ha hb. refl;
   columns = λ a b ha l hb. refl;
@@ -39,22 +37,22 @@ rows-idle {n} {k} {m = m} {e = e} h r z = record {
 
 -- ---- the two parts of a row
 
-module _ {n k i : ℕ} {m m₁ m₂ : List ℕ} {e e₁ e₂ : List ℤ} (hk : k < i) (hi : i < n) (p : Mapped n i (k + 1) i (λ b. updated n m e k i b) m e m₁ e₁)
-    (q : Mapped n i (i + 1) n (λ b. updated n m₁ e₁ k i b) m₁ e₁ m₂ e₂) where
-  done-at : (b : ℕ) → k < b → b < n → i ≢ b → entryAt n m₂ e₂ i b ≡ updated n m e k i b
+module _ {n k i : ℕ} {s s₁ s₂ : Slices} (hk : k < i) (hi : i < n) (p : Mapped n i (k + 1) i (λ b. updated n s k i b) s s₁)
+    (q : Mapped n i (i + 1) n (λ b. updated n s₁ k i b) s₁ s₂) where
+  done-at : (b : ℕ) → k < b → b < n → i ≢ b → entryAt n s₂ i b ≡ updated n s k i b
   done-at b hb hn d = go (decLt b i)
     where
-      go : Dec (b < i) → entryAt n m₂ e₂ i b ≡ updated n m e k i b
-      go (yes l) = q .left b (omega arith) hn ∙ p .done b (omega arith) l
+      go : Dec (b < i) → entryAt n s₂ i b ≡ updated n s k i b
+      go (yes l) = q .earlier b (omega arith) hn ∙ p .done b (omega arith) l
       go (no l) =
           q .done b (omega arith) hn
-          ∙ ap₂ plus (p .right b (omega arith) hn)
-          (ap₂ times (p .left k (omega arith) (omega arith)) (p .rows k b (omega arith) hn (λ v. omega arith)))
+          ∙ ap₂ plus (p .later b (omega arith) hn)
+          (ap₂ times (p .earlier k (omega arith) (omega arith)) (p .rows k b (omega arith) hn (λ v. omega arith)))
 
-  column-at : (b : ℕ) → b ≤ k → b < n → entryAt n m₂ e₂ i b ≡ entryAt n m e i b
-  column-at b l hn = q .left b (omega arith) hn ∙ p .left b (omega arith) hn
+  column-at : (b : ℕ) → b ≤ k → b < n → entryAt n s₂ i b ≡ entryAt n s i b
+  column-at b l hn = q .earlier b (omega arith) hn ∙ p .earlier b (omega arith) hn
 
-  pub row-done : Updated n k i (i + 1) m e m₂ e₂
+  pub row-done : Updated n k i (i + 1) s s₂
   row-done = record {
     kept = kept-on (p .kept) (q .kept);
     done = λ a b l g hb hn d. let z : a ≡ i = omega arith in rw z (done-at b hb hn (λ v. d (z ∙ v)));
@@ -63,16 +61,16 @@ module _ {n k i : ℕ} {m m₁ m₂ : List ℕ} {e e₁ e₂ : List ℤ} (hk : k
     columns = λ a b ha l hb. by-row a b ha l hb (decLt a i) (decLt i a);
   }
     where
-      by-row : (a b : ℕ) → a < n → b ≤ k → b < n → Dec (a < i) → Dec (i < a) → entryAt n m₂ e₂ a b ≡ entryAt n m e a b
+      by-row : (a b : ℕ) → a < n → b ≤ k → b < n → Dec (a < i) → Dec (i < a) → entryAt n s₂ a b ≡ entryAt n s a b
       by-row a b ha l hb (yes w) v = q .rows a b ha hb (λ u. omega arith) ∙ p .rows a b ha hb (λ u. omega arith)
       by-row a b ha l hb (no w) (yes v) = q .rows a b ha hb (λ u. omega arith) ∙ p .rows a b ha hb (λ u. omega arith)
       by-row a b ha l hb (no w) (no v) = let z : a ≡ i = omega arith in rw z (column-at b l hb)
 
 -- ---- row after row
 
-pub updated-go : {n k from i to : ℕ} {m m₁ m₂ : List ℕ} {e e₁ e₂ : List ℤ} → k < from → from ≤ i → i ≤ to → to ≤ n → Updated n k from i m e m₁ e₁ → Updated n k i to m₁ e₁ m₂ e₂
-    → Updated n k from to m e m₂ e₂
-updated-go {n} {k} {from} {i} {to} {m} {m₁} {m₂} {e} {e₁} {e₂} hk hf hi ht p q = record {
+pub updated-go : {n k from i to : ℕ} {s s₁ s₂ : Slices} → k < from → from ≤ i → i ≤ to → to ≤ n → Updated n k from i s s₁ → Updated n k i to s₁ s₂
+    → Updated n k from to s s₂
+updated-go {n} {k} {from} {i} {to} {s} {s₁} {s₂} hk hf hi ht p q = record {
   kept = kept-on (p .kept) (q .kept);
   done = λ a b l g hb hn d. by-row a b l g hb hn d (decLt a i);
   above = λ a b l ha hb. q .above a b (omega arith) ha hb ∙ p .above a b l ha hb;
@@ -80,7 +78,7 @@ updated-go {n} {k} {from} {i} {to} {m} {m₁} {m₂} {e} {e₁} {e₂} hk hf hi 
   columns = λ a b ha l hb. q .columns a b ha l hb ∙ p .columns a b ha l hb;
 }
   where
-    by-row : (a b : ℕ) → from ≤ a → a < to → k < b → b < n → a ≢ b → Dec (a < i) → entryAt n m₂ e₂ a b ≡ updated n m e k a b
+    by-row : (a b : ℕ) → from ≤ a → a < to → k < b → b < n → a ≢ b → Dec (a < i) → entryAt n s₂ a b ≡ updated n s k a b
     by-row a b l g hb hn d (yes z) = q .above a b z (omega arith) hn ∙ p .done a b l z hb hn d
     by-row a b l g hb hn d (no z) =
         q .done a b (omega arith) g hb hn d
@@ -88,7 +86,7 @@ updated-go {n} {k} {from} {i} {to} {m} {m₁} {m₂} {e} {e₁} {e₂} hk hf hi 
         (ap₂ times (p .below a k (omega arith) (omega arith) (omega arith)) (p .above k b hk (omega arith) hn))
 
 -- the rows that are left are as they were
-pub ready-on : {n k from i : ℕ} {m m₁ : List ℕ} {e e₁ : List ℤ} → k < from → from ≤ i → Ready n k from m e → Updated n k from i m e m₁ e₁ → Ready n k i m₁ e₁
+pub ready-on : {n k from i : ℕ} {s s₁ : Slices} → k < from → from ≤ i → Ready n k from s → Updated n k from i s s₁ → Ready n k i s₁
 ready-on {n} {k} hk hf r p = record {
   square = still-square (r .square) (p .kept);
   fits = λ a b l ha hb hn d.

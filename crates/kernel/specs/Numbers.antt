@@ -1,21 +1,14 @@
--- The elimination's operations on scaled numbers. Where an operation gives no number, a pair that is no scaled number stands in, so that
--- "every number met is a scaled number" says that every operation had a result.
+-- The elimination's operations on scaled numbers, and the matrix at each of its steps. Where an operation gives no number, a pair that is no
+-- scaled number stands in, so that "every number met is a scaled number" says that every operation had a result.
 use mathlib.Core.Bool.{true}
-use mathlib.Core.List.{List}
 use mathlib.Core.Path.{_≡_}
-use Prim.Native.Nat.{ℕ, _+_, _*_}
-use lib.IntN.{ℤ, pos}
-use lib.ListN.{getD}
+use Prim.Native.Nat.{ℕ, zero, suc, _+_, _-_}
 use Rattle.scaled.specs.declared.Scaled.{Scaled}
 use Rattle.scaled.specs.declared.Rounded.{Rounded}
 use Rattle.scaled.specs.declared.Rounded.the-variants.{Number, None}
-use Rattle.scaled.specs.Scaled.{zeroNumber, isScaled, sumOf, productOf, quotientOf}
+use Rattle.scaled.specs.Scaled.{zeroNumber, noNumber, isScaled, sumOf, productOf, quotientOf}
 use Rattle.scaled.specs.Units.{oneNumber}
-use Rattle.markov.specs.Elimination.{Ops}
-
--- the pair that stands where there is no number
-abbrev pub noNumber : Scaled
-noNumber = record { m = 1; e = pos 0 }
+use Rattle.markov.specs.Elimination.{Ops, next}
 
 -- x is a scaled number
 abbrev pub Fit : Scaled → Type 0
@@ -37,10 +30,7 @@ dividedBy a b = settle (quotientOf a b)
 abbrev pub ops : Ops Scaled
 ops = record { nought = zeroNumber; unit = oneNumber; add = plus; mul = times; div = dividedBy }
 
--- the number at a place of a slice of mantissas and one of exponents
-unfoldable pub numberAt : List ℕ → List ℤ → ℕ → Scaled
-numberAt m e place = record { m = getD m place 0; e = getD e place (pos 0) }
-
--- entry (i, j) of a matrix of n columns that stands row by row in such slices
-unfoldable pub entryAt : ℕ → List ℕ → List ℤ → ℕ → ℕ → Scaled
-entryAt n m e i j = numberAt m e (i * n + j)
+-- the matrix of n states as it stands at step k, its remaining states counted from 0
+unfoldable pub stage : ℕ → ℕ → (ℕ → ℕ → Scaled) → ℕ → ℕ → Scaled
+stage n zero x = x
+stage n (suc k) x = next ops (n - (k + 1)) (stage n k x)

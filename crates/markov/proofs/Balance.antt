@@ -8,11 +8,12 @@ use native.Mathlib.Omega.{arith}
 use native.Mathlib.Decide.{ℕ-discrete}
 use lib.Dec.{eqb}
 use borrow.Author.Tests.{eq-eqb, ne-eqb}
-use Rattle.factors.specs.Sum.{sum, prod}
-use Rattle.factors.proofs.SumLaws.{sum-cong, prod-cong}
+use Rattle.basics.specs.Sum.{sum, prod}
+use Rattle.basics.proofs.SumLaws.{sum-cong, prod-cong}
 use Rattle.markov.specs.Chain.{Rates, Balanced}
-use Rattle.markov.specs.Weight.{count, all, put, over, led, leads, moves, weight}
-use Rattle.markov.proofs.Sums.{sum-mul, sum-at, prod-out}
+use Rattle.basics.specs.Below.{count, all, put}
+use Rattle.markov.specs.Weight.{over, led, leads, moves, weight}
+use Rattle.basics.proofs.TermLaws.{sum-mul, sum-at, prod-out}
 use Rattle.markov.proofs.Ways.{put-off, over-cong, over-sum, over-split}
 use Rattle.markov.proofs.Led.{one-before}
 

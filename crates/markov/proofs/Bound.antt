@@ -5,12 +5,12 @@ use mathlib.Core.Path.{_≡_, refl}
 use Prim.Native.Nat.{ℕ, zero, suc, pred, _+_, _*_, _≤_, _<_, zero-le}
 use native.Mathlib.Nat.{mul-pos}
 use native.Mathlib.Omega.{arith}
-use Rattle.factors.specs.Near.{Factor, Near}
-use Rattle.factors.proofs.NearLaws.{near-same, near-eq, near-sym, near-trans, near-more, near-mul, near-scale, near-cancel}
+use Rattle.basics.specs.Near.{Factor, Near}
+use Rattle.basics.proofs.NearLaws.{near-same, near-eq, near-sym, near-trans, near-more, near-mul, near-scale, near-cancel}
 use Rattle.markov.specs.Chain.{Rates, HasAnswer}
 use Rattle.markov.specs.Weight.{weight}
 use Rattle.markov.specs.Elimination.{Ops, next, weights}
-use Rattle.markov.specs.Count.{positives, stepCount, eliminationCount, pivotProduct}
+use Rattle.markov.proofs.StepCounts.{positives, stepCount, eliminationCount, pivotProduct}
 use Rattle.markov.specs.Promises.{Promises, AllFit}
 use Rattle.markov.proofs.CountLaws.{positives-le}
 use Rattle.markov.proofs.Positive.{weight-alone}

@@ -1,17 +1,17 @@
--- Document 01's cases 1, 2, 3 and 8, and the complete graph on 4 states, by evaluation of the definitions. Assumes nothing.
+-- The elimination of document 01's cases 2 and 3 in exact arithmetic, by evaluation of the definitions. Assumes nothing.
 use mathlib.Core.Path.{_≡_, refl}
 use mathlib.Core.Bool.{cond, _&&_}
-use Prim.Native.Nat.{ℕ, zero, suc, _+_, _*_}
-use native.Mathlib.Omega.{arith}
+use Prim.Native.Nat.{ℕ, _+_, _*_}
 use lib.Dec.{eqb}
-use Rattle.factors.specs.Sum.{sum, prod}
-use Rattle.markov.specs.Chain.{Rates, Balanced}
-use Rattle.markov.specs.Weight.{count, all, put, over, led, leads, moves, weight}
+use Rattle.basics.specs.Sum.{sum, prod}
+use Rattle.markov.specs.Chain.{Rates}
+use Rattle.basics.specs.Below.{count, all, put}
+use Rattle.markov.specs.Weight.{over, led, leads, moves, weight}
 use Rattle.markov.specs.Elimination.{total, pivotOf, quotientAt, next, weights, shares}
-use Rattle.markov.specs.Count.{boundCount, mark, positives, stepCount, eliminationCount}
+use Rattle.markov.proofs.StepCounts.{mark, positives, stepCount, eliminationCount}
 use Rattle.markov.proofs.ExactNumbers.{Num, number, units, fraction, exact}
 
--- ---- exact weights
+-- ---- the chains
 
 -- one move, from i to j at rate x
 unfoldable pub only : ℕ → ℕ → ℕ → Rates
@@ -25,36 +25,9 @@ case2 u v = only 0 1 3 u v + only 1 0 1 u v
 unfoldable pub case3 : Rates
 case3 u v = only 0 1 2 u v + only 1 2 4 u v + only 2 0 8 u v
 
-pub weights-1 : weight 1 (λ i j. 0) 0 ≡ 1
-unfolding weight over sum prod count put leads led all moves
-weights-1 = refl
-
 pub weights-2 : (weight 2 case2 0 ≡ 1) × (weight 2 case2 1 ≡ 3)
 unfolding weight over sum prod count put leads led all moves case2 only
 weights-2 = (refl, refl)
-
-pub weights-3 : (weight 3 case3 0 ≡ 32) × (weight 3 case3 1 ≡ 16) × (weight 3 case3 2 ≡ 8)
-unfolding weight over sum prod count put leads led all moves case3 only
-weights-3 = (refl, refl, refl)
-
--- what flows into each state of case 3 flows out of it
-balanced-3 : Balanced 3 case3 (λ i. weight 3 case3 i)
-unfolding weight over sum prod count put leads led all moves case3 only
-balanced-3 = record {
-  at = elim [ zero ↦ λ l. refl | suc zero ↦ λ l. refl | suc (suc zero) ↦ λ l. refl | suc (suc (suc j)) ↦ λ l. absurd (omega arith) ];
-}
-
--- Cayley: 16 trees on 4 states
-pub weights-complete : (weight 4 (λ i j. 1) 0 ≡ 16) × (weight 4 (λ i j. 1) 1 ≡ 16) × (weight 4 (λ i j. 1) 2 ≡ 16) × (weight 4 (λ i j. 1) 3 ≡ 16)
-unfolding weight over sum prod count put leads led all moves
-weights-complete = (refl, refl, refl, refl)
-
--- ---- bound counts
-
--- case 8
-pub bound-counts : (boundCount 1 ≡ 0) × (boundCount 2 ≡ 8) × (boundCount 3 ≡ 28) × (boundCount 64 ≡ 182784)
-unfolding boundCount
-bound-counts = (refl, refl, refl, refl)
 
 -- ---- the elimination in exact arithmetic
 

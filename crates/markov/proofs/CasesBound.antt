@@ -4,14 +4,15 @@ use mathlib.Core.Logic.{_≢_}
 use Prim.Native.Nat.{ℕ, zero, suc, _*_, _<_}
 use native.Mathlib.Omega.{arith}
 use lib.Dec.{lit<}
-use Rattle.factors.specs.Sum.{sum}
-use Rattle.factors.specs.Near.{Factor, Near}
+use Rattle.basics.specs.Sum.{sum}
+use Rattle.basics.specs.Near.{Factor, Near}
 use Rattle.markov.specs.Chain.{Reaches, here, move, HasAnswer}
 use Rattle.markov.specs.Weight.{weight}
+use Rattle.markov.specs.Count.{boundCount}
 use Rattle.markov.specs.Elimination.{total, pivotOf, quotientAt, next, weights, shares}
 use Rattle.markov.specs.Promises.{FitsOn, FitsBack, AllFit, AllFitShares}
 use Rattle.markov.proofs.ExactNumbers.{Num, number, none, units, IsNumber, fraction, plus, times, exact}
-use Rattle.markov.proofs.Cases.{only, case2, case3, matrix, weights-2, bound-counts}
+use Rattle.markov.proofs.Cases.{only, case2, case3, matrix, weights-2}
 use Rattle.markov.proofs.EliminationBound.{elimination-bound, share-bound}
 use Rattle.markov.proofs.Exact.{exact-promises, exact-elimination}
 
@@ -148,17 +149,21 @@ all-fit-3 = (
 
 -- ---- the error bound
 
+count-2 : boundCount 2 ≡ 8
+unfolding boundCount
+count-2 = refl
+
 -- for any factor: the weights within 8, the shares within 2 × 8 + 2
 bound-2 : (F : Factor) (i : ℕ) → i < 2 → Near F 8 (units (weights (exact 12) 1 (matrix 12 case2) i) * 3) (12 * weight 2 case2 i)
 unfolding matrix
 bound-2 F i l =
-    rw (bound-counts .1, weights-2 .1) at
+    rw (count-2, weights-2 .1) at
     (elimination-bound (exact-promises F 12 (lit< tt)) 1 (matrix 12 case2) case2 (λ i j li lj d. refl) answer-2 (all-fit-2 .elimination) i l)
 
 share-2 : (F : Factor) (i : ℕ) → i < 2 → Near F 18 (units (shares (exact 12) 1 (matrix 12 case2) i) * sum 2 (weight 2 case2)) (12 * weight 2 case2 i)
 unfolding matrix
 share-2 F i l =
-    rw (bound-counts .1) at
+    rw count-2 at
     (share-bound (exact-promises F 12 (lit< tt)) 1 (matrix 12 case2) case2 (λ i j li lj d. refl) answer-2 all-fit-2 i l)
 
 exact-3 : (i : ℕ) → i < 3 → units (weights (exact 7) 2 (matrix 7 case3) i) * weight 3 case3 2 ≡ 7 * weight 3 case3 i

@@ -9,11 +9,12 @@ use native.Mathlib.Decide.{ℕ-discrete}
 use native.Mathlib.Nat.{le-of-eq, le-antisymm, mul-comm, mul-one}
 use lib.Dec.{eqb}
 use borrow.Author.Tests.{eq-eqb, ne-eqb}
-use Rattle.factors.specs.Near.{Factor, AtMost, Near}
-use Rattle.factors.proofs.SumLaws.{prod-cong}
+use Rattle.basics.specs.Near.{Factor, AtMost, Near}
+use Rattle.basics.proofs.SumLaws.{prod-cong}
 use Rattle.markov.specs.Chain.{Rates}
-use Rattle.markov.specs.Weight.{count, over, leads, moves, weight}
-use Rattle.markov.proofs.Sums.{prod-le-but, one-pow, pow-mul}
+use Rattle.basics.specs.Below.{count}
+use Rattle.markov.specs.Weight.{leads, moves, weight}
+use Rattle.basics.proofs.TermLaws.{prod-le-but, one-pow, pow-mul}
 use Rattle.markov.proofs.Ways.{Below, over-cong, over-le, over-mul}
 use Rattle.markov.proofs.Led.{leads-away}
 

@@ -1,23 +1,37 @@
--- The bound count is document 01's formula, and the count of a chain's own steps is at most it. Assumes nothing.
+-- The bound count: its division leaves no rest, what a state adds to it, and that it is at least the count of the elimination's own steps. Assumes nothing.
 use mathlib.Core.Path.{_≡_, refl, _∙_}
-use Prim.Native.Nat.{ℕ, zero, suc, _+_, _-_, _*_, _/_, _≤_, _<_, zero-le}
+use Prim.Native.Nat.{ℕ, zero, suc, _+_, _*_, _≤_, _<_, zero-le}
 use native.Mathlib.Nat.{mul-le-mul, le-refl}
 use native.Mathlib.Omega.{arith}
-use Rattle.factors.specs.Sum.{sum}
-use Rattle.factors.proofs.SumLaws.{sum-last, sum-mono, term-le-sum}
+use Rattle.basics.specs.Sum.{sum}
+use Rattle.basics.proofs.SumLaws.{sum-last, sum-mono, term-le-sum}
 use Rattle.markov.specs.Elimination.{Ops, next}
-use Rattle.markov.specs.Count.{boundCount, mark, positives, stepCount, eliminationCount}
+use Rattle.markov.specs.Count.{boundCount}
+use Rattle.markov.proofs.StepCounts.{mark, positives, stepCount, eliminationCount}
 
 -- ---- the formula
 
--- K(n) = (2n^3 + 6n^2 - 8n) / 3, multiplied across
-pub bound-count-formula : (n : ℕ) → 3 * boundCount n + 8 * n ≡ 2 * (n * n * n) + 6 * (n * n)
-unfolding boundCount
-bound-count-formula zero = refl
-bound-count-formula (suc n) = omega (arith, bound-count-formula n)
+-- K(n) by what each state adds to it
+added : ℕ → ℕ
+added zero = 0
+added (suc n) = added n + 2 * (n * (n + 3))
 
-pub bound-count-quotient : (n : ℕ) → boundCount n ≡ (2 * (n * n * n) + 6 * (n * n) - 8 * n) / 3
-bound-count-quotient n = omega (arith, bound-count-formula n)
+added-formula : (n : ℕ) → 3 * added n + 8 * n ≡ 2 * (n * n * n) + 6 * (n * n)
+unfolding added
+added-formula zero = refl
+added-formula (suc n) = omega (arith, added-formula n)
+
+bound-added : (n : ℕ) → boundCount n ≡ added n
+unfolding boundCount
+bound-added n = omega (arith, added-formula n)
+
+-- K(n) = (2n^3 + 6n^2 - 8n) / 3, multiplied across: the division leaves no rest
+pub bound-count-formula : (n : ℕ) → 3 * boundCount n + 8 * n ≡ 2 * (n * n * n) + 6 * (n * n)
+bound-count-formula n = omega (arith, added-formula n, bound-added n)
+
+-- what one more state adds
+pub bound-count-suc : (n : ℕ) → boundCount (suc n) ≡ boundCount n + 2 * (n * (n + 3))
+bound-count-suc n = omega (arith, bound-count-formula n, bound-count-formula (suc n))
 
 -- ---- positive terms
 
@@ -74,11 +88,12 @@ step-count-le r b c hb hc = omega (arith, mul-le-mul (le-refl r) hb)
 
 -- "It never exceeds K."
 pub elimination-count-le : {X : Type 0} (O : Ops X) (val : X → ℕ) (r : ℕ) (a : ℕ → ℕ → X) → eliminationCount O val r a ≤ boundCount (suc r)
-unfolding eliminationCount boundCount
+unfolding eliminationCount
 elimination-count-le O val zero a = zero-le
 elimination-count-le O val (suc r) a =
     omega (
       arith,
+      bound-count-suc (suc r),
       elimination-count-le O val r (next O (suc r) a),
       step-count-le r _ _ (positives-le (suc r) (λ j. val (a zero (suc j)))) (positives-le (suc r) (λ i. val (a (suc i) zero))),
     )

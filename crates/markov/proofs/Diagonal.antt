@@ -1,12 +1,10 @@
--- The elimination never uses the diagonal: matrices with equal entries between different states give equal weights, shares and
--- counts. Assumes nothing.
-use mathlib.Core.Path.{_≡_, refl, ap, ap₂}
+-- The elimination never uses the diagonal: matrices with equal entries between different states give equal weights and
+-- shares. Assumes nothing.
+use mathlib.Core.Path.{_≡_, refl, ap₂}
 use mathlib.Core.Logic.{_≢_}
-use Prim.Native.Nat.{ℕ, zero, suc, _+_, _*_, _<_, suc-le-suc}
+use Prim.Native.Nat.{ℕ, zero, suc, _<_, suc-le-suc}
 use native.Mathlib.Omega.{arith}
-use Rattle.factors.proofs.SumLaws.{sum-cong}
 use Rattle.markov.specs.Elimination.{Ops, total, pivotOf, quotientAt, next, weights, shares}
-use Rattle.markov.specs.Count.{mark, positives, stepCount, eliminationCount, pivotProduct}
 
 -- equal entries between different states, of r + 1 states
 abbrev pub Agree : {X : Type 0} → ℕ → (ℕ → ℕ → X) → (ℕ → ℕ → X) → Type 0
@@ -41,20 +39,7 @@ module _ {X : Type 0} (O : Ops X) where
       ap₂ (O .div) (total-cong (suc r) (λ j lj. ap₂ (O .mul) (weights-cong r (next-cong r h) j lj) (column-cong (suc r) h j lj))) (pivot-cong (suc r) h)
   weights-cong (suc r) h (suc i) l = weights-cong r (next-cong r h) i (omega arith)
 
+  -- kept for R-3
   pub shares-cong : (r : ℕ) {a b : ℕ → ℕ → X} → Agree r a b → (i : ℕ) → i < suc r → shares O r a i ≡ shares O r b i
   unfolding shares
   shares-cong r h i l = ap₂ (O .div) (weights-cong r h i l) (total-cong (suc r) (weights-cong r h))
-
-  module _ (val : X → ℕ) where
-    pub elimination-count-cong : (r : ℕ) {a b : ℕ → ℕ → X} → Agree r a b → eliminationCount O val r a ≡ eliminationCount O val r b
-    unfolding eliminationCount positives
-    elimination-count-cong zero h = refl
-    elimination-count-cong (suc r) h =
-        ap₂ _+_
-        (ap₂ (stepCount r) (sum-cong (suc r) (λ j l. ap (λ x. mark (val x)) (row-cong (suc r) h j l))) (sum-cong (suc r) (λ i l. ap (λ x. mark (val x)) (column-cong (suc r) h i l))))
-        (elimination-count-cong r (next-cong r h))
-
-    pub pivot-product-cong : (r : ℕ) {a b : ℕ → ℕ → X} → Agree r a b → pivotProduct O val r a ≡ pivotProduct O val r b
-    unfolding pivotProduct
-    pivot-product-cong zero h = refl
-    pivot-product-cong (suc r) h = ap₂ _*_ (ap val (pivot-cong (suc r) h)) (pivot-product-cong r (next-cong r h))

@@ -5,14 +5,15 @@ use mathlib.Core.Logic.{_≢_}
 use Prim.Native.Nat.{ℕ, zero, suc, _+_, _*_, _^_, _<_}
 use native.Mathlib.Nat.{mul-comm, mul-pos, one-le-pow, pow-suc, le-refl}
 use native.Mathlib.Omega.{arith}
-use Rattle.factors.specs.Sum.{sum}
-use Rattle.factors.specs.Near.{Factor, Near}
-use Rattle.factors.proofs.SumLaws.{sum-cong, mul-sum, sum-pos}
-use Rattle.factors.proofs.NearLaws.{near-eq, near-sym, near-trans, near-more, near-sum, near-scale, near-cancel, near-pos}
+use Rattle.basics.specs.Sum.{sum}
+use Rattle.basics.specs.Near.{Factor, Near}
+use Rattle.basics.proofs.SumLaws.{sum-cong, mul-sum, sum-pos}
+use Rattle.basics.proofs.NearLaws.{near-eq, near-sym, near-trans, near-more, near-sum, near-scale, near-cancel, near-pos}
 use Rattle.markov.specs.Chain.{Rates, HasAnswer}
 use Rattle.markov.specs.Weight.{weight}
 use Rattle.markov.specs.Elimination.{Ops, total, weights, shares}
-use Rattle.markov.specs.Count.{boundCount, eliminationCount, pivotProduct}
+use Rattle.markov.specs.Count.{boundCount}
+use Rattle.markov.proofs.StepCounts.{eliminationCount, pivotProduct}
 use Rattle.markov.specs.Promises.{Promises, AllFit, AllFitShares}
 use Rattle.markov.proofs.Bound.{vals, own-bound, own-bound-absolute}
 use Rattle.markov.proofs.Compare.{weight-scale}

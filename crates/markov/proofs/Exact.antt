@@ -8,13 +8,13 @@ use native.Mathlib.Nat.{le-refl, le-antisymm, zero-add, add-zero, mul-comm, mul-
 use native.Mathlib.Omega.{arith}
 use lib.Dec.{eqb}
 use borrow.Author.Tests.{eqb-true}
-use Rattle.factors.specs.Near.{Factor, Near}
-use Rattle.factors.proofs.NearLaws.{near-same, near-eq}
+use Rattle.basics.specs.Near.{Factor, Near}
+use Rattle.basics.proofs.NearLaws.{near-same, near-eq}
 use Rattle.markov.specs.Chain.{Rates, HasAnswer}
 use Rattle.markov.specs.Weight.{weight}
 use Rattle.markov.specs.Elimination.{weights}
 use Rattle.markov.specs.Promises.{Added, Promises, AllFit}
-use Rattle.markov.proofs.Sums.{one-pow}
+use Rattle.basics.proofs.TermLaws.{one-pow}
 use Rattle.markov.proofs.ExactNumbers.{Num, number, none, units, IsNumber, fraction, plus, times, over, exact}
 use Rattle.markov.proofs.EliminationBound.{elimination-bound}
 

@@ -1,16 +1,18 @@
 -- Which states a way leads to which: `led` and `leads` against iteration, and the count behind the balance. Assumes nothing.
 use mathlib.Core.Path.{_≡_, refl, sym, _∙_, ap}
 use mathlib.Core.Logic.{_≢_, _⊎_, inl, inr}
-use mathlib.Core.Bool.{Bool, true, false, _||_, true≢false, and-eq-true-iff}
+use mathlib.Core.Bool.{Bool, true, false, _||_, true≢false}
 use Prim.Native.Nat.{ℕ, zero, suc, _+_, _*_, _-_, _≤_, _<_}
 use native.Mathlib.Omega.{arith}
 use native.Mathlib.Decide.{ℕ-discrete, decLe}
 use native.Mathlib.Nat.{mul-zero, zero-add}
 use lib.Dec.{eqb}
 use borrow.Author.Tests.{eq-eqb, ne-eqb, eqb-true}
-use Rattle.factors.specs.Sum.{sum}
-use Rattle.markov.specs.Weight.{count, all, put, led, leads}
-use Rattle.markov.proofs.Sums.{sum-none, sum-only}
+use Rattle.basics.specs.Sum.{sum}
+use Rattle.basics.specs.Below.{count, put}
+use Rattle.basics.proofs.BoolLaws.{all-at, all-of}
+use Rattle.markov.specs.Weight.{led, leads}
+use Rattle.basics.proofs.TermLaws.{sum-none, sum-only}
 use Rattle.markov.proofs.Ways.{Below, put-at, put-off}
 
 -- ---- iteration
@@ -166,20 +168,6 @@ short n f hf i v hv (suc k) s l e = go (decLe s n) (λ s′ l′ e′. short n f
 
 arrives-led : (n : ℕ) (f : ℕ → ℕ) → Below n n f → (i v : ℕ) → v < n → Arrives f i v → led n f i v ≡ true
 arrives-led n f hf i v hv r = short n f hf i v hv (r .0) (r .0) (omega arith) (r .1)
-
-all-at : (n : ℕ) (p : ℕ → Bool) → all n p ≡ true → (v : ℕ) → v < n → p v ≡ true
-unfolding all
-all-at zero p e v l = absurd (omega arith)
-all-at (suc n) p e v l = go (and-eq-true-iff (p n) (all n p) .0 e) (ℕ-discrete v n) (all-at n p)
-  where
-    go : (p n ≡ true) × (all n p ≡ true) → Dec (v ≡ n) → (all n p ≡ true → (v : ℕ) → v < n → p v ≡ true) → p v ≡ true
-    go c (yes q) ih = rw q (c .0)
-    go c (no d) ih = ih (c .1) v (omega arith)
-
-all-of : (n : ℕ) (p : ℕ → Bool) → ((v : ℕ) → v < n → p v ≡ true) → all n p ≡ true
-unfolding all
-all-of zero p h = refl
-all-of (suc n) p h = and-eq-true-iff (p n) (all n p) .1 (h n (omega arith), all-of n p (λ v l. h v (omega arith)))
 
 -- ---- a way that leads every state to i
 

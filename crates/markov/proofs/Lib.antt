@@ -1,7 +1,8 @@
 -- The worked cases, the theorems of the exact theory, and the elimination's error bound.
+pub mod AllTrees
+pub mod StepCounts
 pub mod ExactNumbers
 pub mod Cases
-pub mod Sums
 pub mod Ways
 pub mod Led
 pub mod Balance
@@ -10,7 +11,7 @@ pub mod Step
 pub mod Unique
 pub mod Rows
 pub mod Positive
-pub mod Absolute
+pub mod LastWeight
 pub mod CountLaws
 pub mod Perturb
 pub mod Rounding

@@ -5,17 +5,17 @@ use mathlib.Core.Logic.{_≢_}
 use Prim.Native.Nat.{ℕ, zero, suc, _+_, _*_, _<_}
 use native.Mathlib.Nat.{one-le-pow}
 use native.Mathlib.Omega.{arith}
-use Rattle.factors.specs.Sum.{sum}
-use Rattle.factors.specs.Near.{Factor, Near}
-use Rattle.factors.proofs.SumLaws.{sum-cong, mul-sum}
-use Rattle.factors.proofs.NearLaws.{near-eq, near-trans, near-more, near-sum, near-scale, near-cancel, near-pos}
+use Rattle.basics.specs.Sum.{sum}
+use Rattle.basics.specs.Near.{Factor, Near}
+use Rattle.basics.proofs.SumLaws.{sum-cong, mul-sum}
+use Rattle.basics.proofs.NearLaws.{near-eq, near-trans, near-more, near-sum, near-scale, near-cancel, near-pos}
 use Rattle.markov.specs.Chain.{Rates, HasAnswer}
 use Rattle.markov.specs.Weight.{weight}
 use Rattle.markov.proofs.Balance.{weight-balanced}
 use Rattle.markov.proofs.Compare.{weight-scale, weight-near}
 use Rattle.markov.proofs.Step.{pivot, reduced, into-zero, pivot-pos, reduced-has-answer, has-answer-of}
 use Rattle.markov.proofs.Positive.{pos-right}
-use Rattle.markov.proofs.Absolute.{absolute-step}
+use Rattle.markov.proofs.LastWeight.{absolute-step}
 
 -- h is the reduced chain of g, divided by the pivot, with entries within d factors
 module _ {F : Factor} (r : ℕ) (g h : Rates) {d : ℕ}

@@ -3,10 +3,11 @@ use mathlib.Core.Path.{_≡_, refl}
 use Prim.Native.Nat.{ℕ, zero, suc, _*_, _<_}
 use native.Mathlib.Omega.{arith}
 use native.Mathlib.Nat.{mul-pos, le-trans}
-use Rattle.factors.specs.Sum.{sum, prod}
-use Rattle.factors.proofs.SumLaws.{term-le-sum}
+use Rattle.basics.specs.Sum.{sum, prod}
+use Rattle.basics.proofs.SumLaws.{term-le-sum}
 use Rattle.markov.specs.Chain.{Rates, Reaches, here, move, HasAnswer, Balances}
-use Rattle.markov.specs.Weight.{count, all, put, over, led, leads, moves, weight}
+use Rattle.basics.specs.Below.{count, all, put}
+use Rattle.markov.specs.Weight.{over, led, leads, moves, weight}
 use Rattle.markov.proofs.Balance.{weight-balanced}
 use Rattle.markov.proofs.Compare.{weight-own-row}
 use Rattle.markov.proofs.Step.{pivot, pivot-pos}

@@ -4,20 +4,20 @@ use mathlib.Core.Logic.{_≢_}
 use Prim.Native.Nat.{ℕ, zero, suc, pred, _+_, _*_, _≤_, _<_, suc-le-suc}
 use native.Mathlib.Nat.{le-refl, mul-pos, mul-zero}
 use native.Mathlib.Omega.{arith}
-use Rattle.factors.specs.Sum.{sum}
-use Rattle.factors.specs.Near.{Factor, Near}
-use Rattle.factors.proofs.SumLaws.{sum-last, mul-sum}
-use Rattle.factors.proofs.NearLaws.{near-same, near-eq, near-sym, near-trans, near-more, near-add, near-sum, near-scale, near-cancel, near-zero, near-pos, near-quot}
+use Rattle.basics.specs.Sum.{sum}
+use Rattle.basics.specs.Near.{Factor, Near}
+use Rattle.basics.proofs.SumLaws.{sum-last, mul-sum}
+use Rattle.basics.proofs.NearLaws.{near-same, near-eq, near-sym, near-trans, near-more, near-add, near-sum, near-scale, near-cancel, near-zero, near-pos, near-quot}
 use Rattle.markov.specs.Chain.{Rates, HasAnswer}
 use Rattle.markov.specs.Weight.{weight}
 use Rattle.markov.specs.Elimination.{Ops, total, pivotOf, quotientAt, next, weights}
-use Rattle.markov.specs.Count.{mark, positives}
+use Rattle.markov.proofs.StepCounts.{mark, positives}
 use Rattle.markov.specs.Promises.{Added, Promises, FitsOn, FitsBack}
 use Rattle.markov.proofs.Balance.{weight-balanced}
 use Rattle.markov.proofs.CountLaws.{positives-last, positives-mono, no-positives, no-positives-at, positives-pos}
 use Rattle.markov.proofs.Positive.{weight-pos}
 use Rattle.markov.proofs.Step.{pivot, reduced, into-zero, pivot-pos}
-use Rattle.markov.proofs.Sums.{sum-none}
+use Rattle.basics.proofs.TermLaws.{sum-none}
 
 zero-right : (k x : ℕ) → zero < k → k * x ≡ zero → x ≡ zero
 zero-right k zero p e = refl

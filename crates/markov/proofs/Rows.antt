@@ -9,10 +9,11 @@ use native.Mathlib.Decide.{ℕ-discrete, decLt}
 use native.Mathlib.Nat.{mul-one, zero-mul, mul-zero}
 use lib.Dec.{eqb}
 use borrow.Author.Tests.{eq-eqb, ne-eqb}
-use Rattle.factors.specs.Sum.{prod}
+use Rattle.basics.specs.Sum.{prod}
 use Rattle.markov.specs.Chain.{Rates, Reaches, here, move, HasAnswer}
-use Rattle.markov.specs.Weight.{count, leads, moves, weight}
-use Rattle.markov.proofs.Sums.{sum-only, prod-ones, prod-none}
+use Rattle.basics.specs.Below.{count}
+use Rattle.markov.specs.Weight.{leads, moves, weight}
+use Rattle.basics.proofs.TermLaws.{sum-only, prod-ones, prod-none}
 use Rattle.markov.proofs.Ways.{Below, over-only}
 use Rattle.markov.proofs.Led.{iter, Leads, leads-in}
 use Rattle.markov.proofs.Balance.{weight-balanced}

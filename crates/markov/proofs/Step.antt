@@ -6,8 +6,8 @@ use Prim.Native.Nat.{ℕ, zero, suc, _+_, _*_, _<_, suc-le-suc}
 use native.Mathlib.Nat.{mul-pos}
 use native.Mathlib.Decide.{ℕ-discrete}
 use native.Mathlib.Omega.{arith}
-use Rattle.factors.specs.Sum.{sum}
-use Rattle.factors.proofs.SumLaws.{sum-cong, sum-lin, sum-pos}
+use Rattle.basics.specs.Sum.{sum}
+use Rattle.basics.proofs.SumLaws.{sum-cong, sum-lin, sum-pos}
 use Rattle.markov.specs.Chain.{Rates, Reaches, here, move, HasAnswer, Balanced}
 
 -- the sum of row 0 of r + 1 states

@@ -3,8 +3,8 @@ use mathlib.Core.Path.{_≡_, refl, sym, ap}
 use Prim.Native.Nat.{ℕ, zero, suc, _*_, _<_}
 use native.Mathlib.Nat.{eq-of-mul-eq-mul-left}
 use native.Mathlib.Omega.{arith}
-use Rattle.factors.specs.Sum.{sum}
-use Rattle.factors.proofs.SumLaws.{sum-cong, mul-sum}
+use Rattle.basics.specs.Sum.{sum}
+use Rattle.basics.proofs.SumLaws.{sum-cong, mul-sum}
 use Rattle.markov.specs.Chain.{Rates, HasAnswer, Balanced, InProportion}
 use Rattle.markov.specs.Weight.{weight}
 use Rattle.markov.proofs.Balance.{weight-balanced}

@@ -7,10 +7,11 @@ use native.Mathlib.Decide.{ℕ-discrete}
 use native.Mathlib.Nat.{zero-mul}
 use lib.Dec.{eqb}
 use borrow.Author.Tests.{eq-eqb, ne-eqb}
-use Rattle.factors.specs.Sum.{sum}
-use Rattle.factors.proofs.SumLaws.{sum-cong, sum-mono, sum-swap, mul-sum}
-use Rattle.markov.specs.Weight.{count, put, over}
-use Rattle.markov.proofs.Sums.{sum-mul, sum-only, sum-at}
+use Rattle.basics.specs.Sum.{sum}
+use Rattle.basics.proofs.SumLaws.{sum-cong, sum-mono, sum-swap, mul-sum}
+use Rattle.basics.specs.Below.{count, put}
+use Rattle.markov.specs.Weight.{over}
+use Rattle.basics.proofs.TermLaws.{sum-mul, sum-only, sum-at}
 
 -- a way of the states below m among the states below n
 abbrev pub Below : ℕ → ℕ → (ℕ → ℕ) → Type 0

@@ -2,7 +2,7 @@
 -- The diagonal does not matter: no definition here depends on the rate from a state to itself.
 use mathlib.Core.Path.{_≡_}
 use Prim.Native.Nat.{ℕ, zero, _*_, _<_}
-use Rattle.factors.specs.Sum.{sum}
+use Rattle.basics.specs.Sum.{sum}
 
 abbrev pub Rates : Type 0
 Rates = ℕ → ℕ → ℕ

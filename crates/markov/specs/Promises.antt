@@ -4,7 +4,7 @@
 use mathlib.Core.Path.{_≡_}
 use mathlib.Core.Logic.{_≢_}
 use Prim.Native.Nat.{ℕ, zero, suc, _+_, _*_, _≤_, _<_}
-use Rattle.factors.specs.Near.{Factor, Near}
+use Rattle.basics.specs.Near.{Factor, Near}
 use Rattle.markov.specs.Elimination.{Ops, total, quotientAt, next, weights, shares}
 
 -- c is a rounded sum of a and b: exact where one of them is 0, otherwise within one factor

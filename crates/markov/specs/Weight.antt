@@ -1,24 +1,11 @@
 -- The exact weight of a state: "the sum, over all ways to give each other state one move so that every state is led to i,
 -- of the product of those moves' rates. For n = 1 it is 1." A way is a function f: state v moves to f v.
-use mathlib.Core.Bool.{Bool, true, false, cond, _&&_, _||_}
+use mathlib.Core.Bool.{Bool, cond, _&&_, _||_}
 use Prim.Native.Nat.{ℕ, zero, suc, _*_}
 use lib.Dec.{eqb}
-use Rattle.factors.specs.Sum.{sum, prod}
+use Rattle.basics.specs.Sum.{sum, prod}
+use Rattle.basics.specs.Below.{count, all, put}
 use Rattle.markov.specs.Chain.{Rates}
-
--- 1 where the test holds, 0 where it fails
-unfoldable pub count : Bool → ℕ
-count true = 1
-count false = 0
-
--- whether the test holds at every number below n
-unfoldable pub all : ℕ → (ℕ → Bool) → Bool
-all zero p = true
-all (suc n) p = p n && all n p
-
--- f, but k at m
-unfoldable pub put : (ℕ → ℕ) → ℕ → ℕ → ℕ → ℕ
-put f m k v = cond (eqb v m) k (f v)
 
 -- the sum of F f over all n ^ m functions f from the numbers below m to the numbers below n
 unfoldable pub over : ℕ → ℕ → ((ℕ → ℕ) → ℕ) → ℕ

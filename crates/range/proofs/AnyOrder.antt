@@ -5,9 +5,9 @@ use mathlib.Core.Bool.{Bool}
 use Prim.Native.Nat.{ℕ, zero, suc, _*_, _^_, _≤_, _<_}
 use native.Mathlib.Nat.{le-trans, le-refl, mul-le-mul-left, mul-le-mul-right, pow-zero, pow-suc}
 use native.Mathlib.Omega.{arith}
-use Rattle.factors.specs.Near.{Factor}
-use Rattle.factors.proofs.SumLaws.{sum-pos}
-use Rattle.factors.proofs.NearLaws.{at-most-of-le, near-same, near-eq}
+use Rattle.basics.specs.Near.{Factor}
+use Rattle.basics.proofs.SumLaws.{sum-pos}
+use Rattle.basics.proofs.NearLaws.{at-most-of-le, near-same, near-eq}
 use Rattle.markov.specs.Chain.{Rates}
 use Rattle.markov.specs.Weight.{weight}
 use Rattle.markov.specs.Elimination.{Ops, total, weights, shares}
@@ -16,7 +16,7 @@ use Rattle.markov.proofs.Bound.{vals}
 use Rattle.markov.proofs.EliminationBound.{filled-answer, filled-weight}
 use Rattle.markov.proofs.Positive.{weight-pos}
 use Rattle.range.specs.Bounds.{pivotBound, weightBound, roomBound}
-use Rattle.range.specs.Range.{Numbers, Sized, Filled, picked, WeightBounded, Met, InRoom}
+use Rattle.range.specs.Range.{Numbers, Between, Filled, picked, WeightBounded, Met, InRoom}
 use Rattle.range.proofs.Walks.{cheap-of}
 use Rattle.range.proofs.Entries.{Positive, AtLeast}
 use Rattle.range.proofs.Sizes.{total-sized, term-le-total, total-pos, div-sized}
@@ -32,7 +32,7 @@ module _ {F : Factor} {X : Type 0} {O : Ops X} {one : ℕ} {val : X → ℕ} {Fi
   Q = weightBound n top
 
   abbrev Has : ℕ → ℕ → X → Type 0
-  Has = Sized one val Fit
+  Has = Between one val Fit
 
   -- ---- the matrix that is filled in
 

@@ -4,9 +4,9 @@ use mathlib.Core.Path.{refl}
 use Prim.Native.Nat.{ℕ, zero, suc, _*_, _≤_, _<_}
 use native.Mathlib.Nat.{le-refl, le-mul-of-pos-right, mul-le-mul-left, mul-le-mul-right}
 use native.Mathlib.Omega.{arith}
-use Rattle.factors.specs.Near.{Factor, Near}
-use Rattle.factors.proofs.NearLaws.{near-trans, near-more, near-eq, near-scale, near-cancel}
-use Rattle.factors.proofs.MildLaws.{within-2}
+use Rattle.basics.specs.Near.{Factor, Near}
+use Rattle.basics.proofs.NearLaws.{near-trans, near-more, near-eq, near-scale, near-cancel}
+use Rattle.basics.proofs.MildLaws.{within-2}
 use Rattle.markov.specs.Weight.{weight}
 use Rattle.markov.specs.Elimination.{Ops, total, pivotOf, next, weights}
 use Rattle.markov.specs.Count.{boundCount}
@@ -16,7 +16,7 @@ use Rattle.markov.proofs.CountLaws.{elimination-count-le}
 use Rattle.markov.proofs.FitMaps.{all-weights-fit}
 use Rattle.markov.proofs.Positive.{weight-pos}
 use Rattle.range.specs.Bounds.{entryBound, pivotBound, weightBound, roomBound}
-use Rattle.range.specs.Range.{Numbers, Sized, StepsBounded, WeightBounded, Met}
+use Rattle.range.specs.Range.{Numbers, Between, StepsBounded, WeightBounded, Met}
 use Rattle.range.proofs.Sizes.{sized-more, total-sized, mul-sized, div-sized}
 use Rattle.range.proofs.Steps.{Reached, bounds, met, met-promises, column, step-bounded, on-fits, next-reached}
 
@@ -31,7 +31,7 @@ module _ {F : Factor} {X : Type 0} {O : Ops X} {one : ℕ} {val : X → ℕ} {Fi
   Q = weightBound n top
 
   abbrev Has : ℕ → ℕ → X → Type 0
-  Has = Sized one val Fit
+  Has = Between one val Fit
 
   abbrev Fits : X → Type 0
   Fits = Met O one val Fit n top

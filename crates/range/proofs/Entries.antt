@@ -5,10 +5,10 @@ use Prim.Native.Nat.{ℕ, zero, suc, _+_, _*_, _^_, _≤_, _<_, suc-le-suc}
 use native.Mathlib.Nat.{le-trans, mul-le-mul, mul-le-mul-left, mul-le-mul-right, le-of-mul-le-mul-left, mul-pos}
 use native.Mathlib.Omega.{arith}
 use lib.Pow.{pow-add}
-use Rattle.factors.specs.Near.{Factor, AtMost, Near, Mild}
-use Rattle.factors.proofs.SumLaws.{term-le-sum}
-use Rattle.factors.proofs.NearLaws.{at-most-of-le, at-most-trans, at-most-add, at-most-cancel, at-most-more, near-sym, near-pos}
-use Rattle.factors.proofs.MildLaws.{within-2}
+use Rattle.basics.specs.Near.{Factor, AtMost, Near, Mild}
+use Rattle.basics.proofs.SumLaws.{term-le-sum}
+use Rattle.basics.proofs.NearLaws.{at-most-of-le, at-most-trans, at-most-add, at-most-cancel, at-most-more, near-sym, near-pos}
+use Rattle.basics.proofs.MildLaws.{within-2}
 use Rattle.markov.specs.Chain.{Rates}
 use Rattle.markov.proofs.Positive.{pos-left, pos-right}
 use Rattle.markov.proofs.Step.{pivot, reduced}

@@ -6,9 +6,10 @@ use Prim.Native.Nat.{ℕ, zero, suc, _*_, _^_, _≤_, _<_}
 use native.Mathlib.Nat.{le-trans, le-refl, pow-zero, pow-suc}
 use native.Mathlib.Omega.{arith}
 use lib.Dec.{eqb}
-use Rattle.factors.proofs.SumLaws.{sum-most, prod-most}
+use Rattle.basics.proofs.SumLaws.{sum-most, prod-most}
 use Rattle.markov.specs.Chain.{Rates}
-use Rattle.markov.specs.Weight.{count, put, over, leads, moves, weight}
+use Rattle.basics.specs.Below.{count, put}
+use Rattle.markov.specs.Weight.{over, leads, moves, weight}
 use Rattle.markov.proofs.Compare.{weight-mono}
 
 over-most : (m n u : ℕ) (G : (ℕ → ℕ) → ℕ) → ((f : ℕ → ℕ) → G f ≤ u) → over m n G ≤ n ^ m * u

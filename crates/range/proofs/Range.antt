@@ -4,19 +4,19 @@ use mathlib.Core.Bool.{Bool}
 use Prim.Native.Nat.{ℕ, suc, _*_, _^_, _≤_}
 use native.Mathlib.Nat.{le-trans, mul-le-mul-left}
 use lib.Dec.{lit≤}
-use Rattle.factors.specs.Near.{Factor, Mild}
+use Rattle.basics.specs.Near.{Factor, Mild}
 use Rattle.markov.specs.Chain.{Rates}
 use Rattle.markov.specs.Elimination.{Ops, shares}
 use Rattle.markov.specs.Count.{boundCount}
 use Rattle.markov.specs.Promises.{Promises, AllFitShares}
 use Rattle.markov.proofs.FitMaps.{shares-fit-map}
 use Rattle.range.specs.Bounds.{mostStates, mostRate, margin, entryBound, pivotBound, weightBound, roomBound}
-use Rattle.range.specs.Range.{Roomy, Filled, picked, Within, Met, InRoom}
+use Rattle.range.specs.Range.{Ample, Filled, picked, Within, Met, InRoom}
 use Rattle.range.proofs.AnyOrder.{in-room}
 use Rattle.range.proofs.Sizes.{sized-more}
 
 -- less room asks less
-roomy-less : {X : Type 0} {O : Ops X} {one : ℕ} {val : X → ℕ} {Fit : X → Type 0} {s t : ℕ} → s ≤ t → Roomy O one val Fit t → Roomy O one val Fit s
+roomy-less : {X : Type 0} {O : Ops X} {one : ℕ} {val : X → ℕ} {Fit : X → Type 0} {s t : ℕ} → s ≤ t → Ample O one val Fit t → Ample O one val Fit s
 roomy-less {one = one} {val = val} l R = record {
   nought-fits = R .nought-fits;
   unit-fits = R .unit-fits;
@@ -34,7 +34,7 @@ unfolding mostStates mostRate margin entryBound pivotBound weightBound roomBound
 room-margin = lit≤ tt
 
 module _ {F : Factor} {X : Type 0} {O : Ops X} {one : ℕ} {val : X → ℕ} {Fit : X → Type 0} (P : Promises F O one val Fit)
-    (M : Mild F (boundCount mostStates)) (R : Roomy O one val Fit (2 ^ margin))
+    (M : Mild F (boundCount mostStates)) (R : Ample O one val Fit (2 ^ margin))
     {r : ℕ} {a : ℕ → ℕ → X} {rate : Rates} (H : Filled one val Fit mostStates mostRate r a rate) where
   -- the bounds by name
   pub range-bounds : InRoom O one val Fit mostStates mostRate r a

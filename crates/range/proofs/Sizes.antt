@@ -6,11 +6,11 @@ use Prim.Native.Nat.{ℕ, zero, suc, _+_, _*_, _≤_, _<_, suc-le-suc}
 use native.Mathlib.Nat.{le-trans, le-refl, mul-le-mul, mul-le-mul-left, mul-le-mul-right, le-of-mul-le-mul-left, mul-pos, eq-zero-or-pos}
 use native.Mathlib.Decide.{decLe}
 use native.Mathlib.Omega.{arith}
-use Rattle.factors.specs.Sum.{sum}
-use Rattle.factors.specs.Near.{Factor, AtMost, Near}
-use Rattle.factors.proofs.SumLaws.{sum-last, sum-most, term-le-sum}
-use Rattle.factors.proofs.NearLaws.{near-pos, near-sym, near-more}
-use Rattle.factors.proofs.MildLaws.{within-2}
+use Rattle.basics.specs.Sum.{sum}
+use Rattle.basics.specs.Near.{Factor, AtMost, Near}
+use Rattle.basics.proofs.SumLaws.{sum-last, sum-most, term-le-sum}
+use Rattle.basics.proofs.NearLaws.{near-pos, near-sym, near-more}
+use Rattle.basics.proofs.MildLaws.{within-2}
 use Rattle.markov.specs.Elimination.{Ops, total}
 use Rattle.markov.specs.Count.{boundCount}
 use Rattle.markov.specs.Promises.{Added}
@@ -18,7 +18,7 @@ use Rattle.markov.proofs.CountLaws.{positives-le}
 use Rattle.markov.proofs.Positive.{pos-left, pos-right}
 use Rattle.markov.proofs.Rounding.{total-near}
 use Rattle.range.specs.Bounds.{roomBound}
-use Rattle.range.specs.Range.{Numbers, Sized}
+use Rattle.range.specs.Range.{Numbers, Between}
 use Rattle.range.proofs.Entries.{either-pos}
 use Rattle.range.proofs.Rooms.{order-count}
 
@@ -35,7 +35,7 @@ sum-least (suc n) one c f h p =
     go (inr q) ih = omega (arith, ih q)
 
 module _ {X : Type 0} {one : ℕ} {val : X → ℕ} {Fit : X → Type 0} where
-  pub sized-more : {l h l′ h′ : ℕ} {x : X} → l ≤ l′ → h ≤ h′ → Sized one val Fit l h x → Sized one val Fit l′ h′ x
+  pub sized-more : {l h l′ h′ : ℕ} {x : X} → l ≤ l′ → h ≤ h′ → Between one val Fit l h x → Between one val Fit l′ h′ x
   sized-more {x = x} p q s = record {
     fits = s .fits;
     least = λ z. le-trans (s .least z) (mul-le-mul-left (val x) p);
@@ -54,7 +54,7 @@ module _ {F : Factor} {X : Type 0} {O : Ops X} {one : ℕ} {val : X → ℕ} {Fi
   within-one = within-2 (N .mild) (omega (arith, order-count n (N .states)))
 
   -- a rounded sum of m terms, at most n
-  module _ (m : ℕ) (f : ℕ → X) {l h : ℕ} (terms : (j : ℕ) → j < m → Sized one val Fit l h (f j)) (order : m ≤ n) (high : 2 * (n * h) ≤ room) where
+  module _ (m : ℕ) (f : ℕ → X) {l h : ℕ} (terms : (j : ℕ) → j < m → Between one val Fit l h (f j)) (order : m ≤ n) (high : 2 * (n * h) ≤ room) where
     part-near : (k : ℕ) → k ≤ m → ((i : ℕ) → i ≤ k → Fit (total O i f)) → Near F (boundCount n) (val (total O k f)) (sum k (λ j. val (f j)))
     part-near k q fit =
         near-more (omega (arith, positives-le k (λ j. val (f j)), order-count n (N .states))) (total-near (N .promises) k f (λ j p. terms j (omega arith) .fits) fit)
@@ -87,7 +87,7 @@ module _ {F : Factor} {X : Type 0} {O : Ops X} {one : ℕ} {val : X → ℕ} {Fi
     sum-near k q = part-near k q (parts-fit k q)
 
     -- every partial sum is a number
-    pub total-sized : (k : ℕ) → k ≤ m → Sized one val Fit (2 * l) (2 * (n * h)) (total O k f)
+    pub total-sized : (k : ℕ) → k ≤ m → Between one val Fit (2 * l) (2 * (n * h)) (total O k f)
     total-sized k q = record {
       fits = parts-fit k q k (le-refl k);
       least = λ p.
@@ -104,8 +104,8 @@ module _ {F : Factor} {X : Type 0} {O : Ops X} {one : ℕ} {val : X → ℕ} {Fi
     pub total-pos : zero < sum m (λ j. val (f j)) → zero < val (total O m f)
     total-pos p = near-pos (sum-near m (le-refl m)) p
 
-  pub add-sized : {l h h′ : ℕ} {x y : X} → Sized one val Fit l h x → Sized one val Fit l h′ y → h + h′ ≤ room
-      → Sized one val Fit l (2 * (h + h′)) (O .add x y)
+  pub add-sized : {l h h′ : ℕ} {x y : X} → Between one val Fit l h x → Between one val Fit l h′ y → h + h′ ≤ room
+      → Between one val Fit l (2 * (h + h′)) (O .add x y)
   add-sized {l} {h} {h′} {x} {y} sx sy high = record {
     fits = fit;
     least = λ p. at-least p (eq-zero-or-pos (val x));
@@ -122,8 +122,8 @@ module _ {F : Factor} {X : Type 0} {O : Ops X} {one : ℕ} {val : X → ℕ} {Fi
       at-least p (inl z) = let e : val (O .add x y) ≡ val y = sum-of .left z in rw e (sy .least (rw e at p))
       at-least p (inr q) = le-trans (sx .least q) (mul-le-mul-right l (N .roomy .left-le x y (sx .fits) (sy .fits) fit))
 
-  pub mul-sized : {l h l′ h′ : ℕ} {x y : X} → Sized one val Fit l h x → Sized one val Fit l′ h′ y → l * l′ ≤ room → h * h′ ≤ room
-      → Sized one val Fit (2 * (l * l′)) (2 * (h * h′)) (O .mul x y)
+  pub mul-sized : {l h l′ h′ : ℕ} {x y : X} → Between one val Fit l h x → Between one val Fit l′ h′ y → l * l′ ≤ room → h * h′ ≤ room
+      → Between one val Fit (2 * (l * l′)) (2 * (h * h′)) (O .mul x y)
   mul-sized {l} {h} {l′} {h′} {x} {y} sx sy low high = record {
     fits = fit;
     least = λ p.
@@ -149,7 +149,7 @@ module _ {F : Factor} {X : Type 0} {O : Ops X} {one : ℕ} {val : X → ℕ} {Fi
 
   -- a quotient x / y that is 0, or at least 1 / d and at most c
   pub div-sized : (d c : ℕ) {x y : X} → Fit x → Fit y → zero < val y → (zero < val x → val y ≤ val x * d) → val x ≤ val y * c → d ≤ room → c ≤ room
-      → Sized one val Fit (2 * d) (2 * c) (O .div x y)
+      → Between one val Fit (2 * d) (2 * c) (O .div x y)
   div-sized d c {x} {y} fx fy pos below above low high = record {
     fits = fit;
     least = λ p.

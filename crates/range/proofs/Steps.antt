@@ -5,21 +5,22 @@ use mathlib.Core.Logic.{_≢_}
 use Prim.Native.Nat.{ℕ, zero, suc, _+_, _*_, _^_, _≤_, _<_, suc-le-suc}
 use native.Mathlib.Nat.{le-trans, le-refl, mul-le-mul-left, mul-le-mul-right, le-mul-of-pos-right, mul-pos, pow-le-pow-right, pow-suc}
 use native.Mathlib.Omega.{arith}
-use Rattle.factors.specs.Near.{Factor, AtMost, Near}
-use Rattle.factors.proofs.NearLaws.{at-most-more, near-sym, near-trans, near-more, near-eq, near-scale, near-cancel}
-use Rattle.factors.proofs.MildLaws.{within-2}
+use Rattle.basics.specs.Near.{Factor, AtMost, Near}
+use Rattle.basics.proofs.NearLaws.{at-most-more, near-sym, near-trans, near-more, near-eq, near-scale, near-cancel}
+use Rattle.basics.proofs.MildLaws.{within-2}
 use Rattle.markov.specs.Chain.{Rates, HasAnswer}
 use Rattle.markov.specs.Weight.{weight}
 use Rattle.markov.specs.Elimination.{Ops, total, pivotOf, quotientAt, next}
-use Rattle.markov.specs.Count.{boundCount, positives}
+use Rattle.markov.specs.Count.{boundCount}
+use Rattle.markov.proofs.StepCounts.{positives}
 use Rattle.markov.specs.Promises.{Promises, FitsOn}
 use Rattle.markov.proofs.Bound.{vals}
-use Rattle.markov.proofs.CountLaws.{positives-le}
+use Rattle.markov.proofs.CountLaws.{bound-count-suc, positives-le}
 use Rattle.markov.proofs.Perturb.{next-has-answer, step-near}
 use Rattle.markov.proofs.Rounding.{entry-near}
 use Rattle.markov.proofs.Step as exact
 use Rattle.range.specs.Bounds.{entryBound, pivotBound, weightBound, roomBound}
-use Rattle.range.specs.Range.{Numbers, Sized, StepBounded, Met}
+use Rattle.range.specs.Range.{Numbers, Between, StepBounded, Met}
 use Rattle.range.proofs.Walks.{Cheap, cheap-on, cheap-move}
 use Rattle.range.proofs.Entries.{Positive, AtLeast, doubled, least-on, positive-back}
 use Rattle.range.proofs.Sizes.{sized-more, part-most, total-sized, term-le-total, total-pos, add-sized, mul-sized, div-sized}
@@ -49,7 +50,7 @@ module _ {F : Factor} {X : Type 0} {O : Ops X} {one : ℕ} {val : X → ℕ} {Fi
   Q = weightBound n top
 
   abbrev Has : ℕ → ℕ → X → Type 0
-  Has = Sized one val Fit
+  Has = Between one val Fit
 
   pub bounds : Rooms n A B Q (roomBound n top)
   bounds = rooms n top (N .states) (N .rates)
@@ -198,10 +199,9 @@ module _ {F : Factor} {X : Type 0} {O : Ops X} {one : ℕ} {val : X → ℕ} {Fi
         (near-eq (near-more (omega arith) (near-trans into (near-trans (I .proportion (suc i) (suc-le-suc l)) out))) (omega arith) (omega arith))
 
     pub next-reached : Reached F one val Fit n top (suc k) (t + 2 * (suc r * (suc r + 3))) r (next O (suc r) a) (λ i. z (suc i))
-    unfolding boundCount
     next-reached = record {
       steps = omega arith;
-      factors = omega arith;
+      factors = omega (arith, bound-count-suc (suc r), I .factors);
       answer = next-has-answer r g h close (I .answer);
       fits = λ i j li lj ne. sum i j li lj ne .fits;
       upper = λ i j li lj ne. at-most-more (omega (arith, count-le)) (next-upper i j li lj ne);

@@ -4,7 +4,7 @@ use mathlib.Core.Bool.{Bool, cond}
 use mathlib.Core.Logic.{_≢_}
 use mathlib.Core.Path.{_≡_}
 use Prim.Native.Nat.{ℕ, zero, suc, _+_, _*_, _^_, _≤_, _<_}
-use Rattle.factors.specs.Near.{Factor, Mild}
+use Rattle.basics.specs.Near.{Factor, Mild}
 use Rattle.markov.specs.Chain.{Rates, HasAnswer}
 use Rattle.markov.specs.Elimination.{Ops, total, pivotOf, next, weights, shares}
 use Rattle.markov.specs.Count.{boundCount}
@@ -13,7 +13,7 @@ use Rattle.range.specs.Bounds.{margin, entryBound, pivotBound, weightBou
 
 -- an operation gives a number wherever its exact result is 0 or lies between 1 / room and room (a sum: is at most room), and a sum
 -- is not below its first operand
-pub record Roomy {X : Type 0} (O : Ops X) (one : ℕ) (val : X → ℕ) (Fit : X → Type 0) (room : ℕ) : Type 0 where
+pub record Ample {X : Type 0} (O : Ops X) (one : ℕ) (val : X → ℕ) (Fit : X → Type 0) (room : ℕ) : Type 0 where
   pub nought-fits : Fit (O .nought)
   pub unit-fits : Fit (O .unit)
   pub add-fits : (x y : X) → Fit x → Fit y → val x + val y ≤ one * room → Fit (O .add x y)
@@ -26,21 +26,21 @@ pub record Roomy {X : Type 0} (O : Ops X) (one : ℕ) (val : X → ℕ) (Fit : X
 -- states and rates at most top
 pub record Numbers (F : Factor) {X : Type 0} (O : Ops X) (one : ℕ) (val : X → ℕ) (Fit : X → Type 0) (n top : ℕ) : Type 0 where
   pub promises : Promises F O one val Fit
-  pub roomy : Roomy O one val Fit (roomBound n top)
+  pub roomy : Ample O one val Fit (roomBound n top)
   pub mild : Mild F (boundCount n)
   pub states : 2 ≤ n
   pub rates : 1 ≤ top
 
 module _ {X : Type 0} (one : ℕ) (val : X → ℕ) (Fit : X → Type 0) where
   -- a number that is 0, or at least 1 / low and at most high
-  pub record Sized (low high : ℕ) (x : X) : Type 0 where
+  pub record Between (low high : ℕ) (x : X) : Type 0 where
     pub fits : Fit x
     pub least : zero < val x → one ≤ val x * low
     pub most : val x ≤ one * high
 
   -- 0, or at least 2^-margin and at most 2^margin
   abbrev pub Within : X → Type 0
-  Within = Sized (2 ^ margin) (2 ^ margin)
+  Within = Between (2 ^ margin) (2 ^ margin)
 
   -- a matrix on r + 1 states, at most n, filled with the rates, at most top, of a chain in which every state reaches every other
   pub record Filled (n top r : ℕ) (a : ℕ → ℕ → X) (rate : Rates) : Type 0 where
@@ -58,8 +58,8 @@ picked O test f (suc n) = cond (test n) (O .add (picked O test f n) (f n)) (pick
 module _ {X : Type 0} (O : Ops X) (one : ℕ) (val : X → ℕ) (Fit : X → Type 0) (n top : ℕ) where
   -- the entries and the pivot of one step on r + 1 states
   pub record StepBounded (r : ℕ) (a : ℕ → ℕ → X) : Type 0 where
-    pub entries : (i j : ℕ) → i < suc r → j < suc r → i ≢ j → Sized one val Fit (weightBound n top) (entryBound n top) (a i j)
-    pub pivot : Sized one val Fit (2 * weightBound n top) (pivotBound n top) (pivotOf O r a)
+    pub entries : (i j : ℕ) → i < suc r → j < suc r → i ≢ j → Between one val Fit (weightBound n top) (entryBound n top) (a i j)
+    pub pivot : Between one val Fit (2 * weightBound n top) (pivotBound n top) (pivotOf O r a)
     pub pivot-pos : zero < val (pivotOf O r a)
 
   -- every step of the elimination of r + 1 states
@@ -69,12 +69,12 @@ module _ {X : Type 0} (O : Ops X) (one : ℕ) (val : X → ℕ) (Fit : X → Typ
 
   -- a weight
   pub record WeightBounded (x : X) : Type 0 where
-    pub sized : Sized one val Fit (weightBound n top) (weightBound n top) x
+    pub sized : Between one val Fit (weightBound n top) (weightBound n top) x
     pub positive : zero < val x
 
   -- a number that is 0 or between 1 / room and room
   abbrev pub Met : X → Type 0
-  Met = Sized one val Fit (roomBound n top) (roomBound n top)
+  Met = Between one val Fit (roomBound n top) (roomBound n top)
 
   -- all that is said of the elimination of r + 1 states: every number met, in the shares and in sums of them too, has its size;
   -- and the bounds by name

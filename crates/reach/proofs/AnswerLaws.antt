@@ -1,35 +1,24 @@
 -- The definition `answered` gives exactly the verdict whose facts hold: a chain is accepted if and only if the rules 1 to 4 hold
 -- and it has an answer, and 6 names the lowest pair. Assumes nothing.
-use Prim.Native.Nat.{ℕ, zero, suc, _+_, _-_, _<_, _≤_}
+use Prim.Native.Nat.{ℕ, _<_, _≤_}
 use mathlib.Core.Bool.{Bool, true, false, cond, not, false≢true}
-use mathlib.Core.List.{List}
 use mathlib.Core.Path.{_≡_, refl, sym, ap, _∙_}
 use native.Mathlib.Omega.{arith}
 use lib.Dec.{ltb}
 use lib.ListN.{length}
 use borrow.Author.Tests.{ltb-true, ltb-false, lt-ltb, le-ltb, not-true, not-false}
-use Rattle.refusal.specs.First.{firstOf, first}
-use Rattle.refusal.specs.Table.{Verdict, Side, accepts, refuses, of-chain, numbered, andThen}
-use Rattle.refusal.specs.declared.Line.{Line}
-use Rattle.refusal.proofs.FirstLaws.{IsFirst, first-is, by-true, by-false}
+use Rattle.refusal.specs.Table.{Verdict, accepts, refuses, of-chain, numbered, andThen}
+use Rattle.basics.proofs.FirstLaws.{IsFirst, first-is, first-cong}
+use Rattle.basics.proofs.BoolLaws.{by-true, by-false}
 use Rattle.markov.specs.Chain.{Rates, Reaches, HasAnswer}
+use Rattle.chain.specs.Rows.{Rows}
 use Rattle.chain.specs.Rules.{checked}
-use Rattle.chain.specs.Sound.{Sound, Says, order-broken, lengths-broken, starts-broken, columns-broken, all-hold}
+use Rattle.chain.specs.Sound.{Sound}
 use Rattle.chain.specs.Meaning.{rateIn}
 use Rattle.reach.specs.Reach.{via}
 use Rattle.reach.specs.Answer.{lowestTo, lowestFrom, allReached, answered, LowestPair, AnswerSays, rule-broken, unreached, has-answer}
-use Rattle.chain.proofs.Reading.{checked-says, sound-accepted, accepted-sound}
+use Rattle.chain.proofs.Reading.{checked-says, says-checked, sound-accepted, accepted-sound}
 use Rattle.reach.proofs.ViaLaws.{via-iff}
-
--- ---- equal tests have the same first
-
-firstOf-cong : (f h : ℕ → Bool) (k i : ℕ) → ((j : ℕ) → i ≤ j → j < i + k → f j ≡ h j) → firstOf f k i ≡ firstOf h k i
-firstOf-cong f h zero i e = refl
-firstOf-cong f h (suc k) i e =
-    rw (e i (omega arith) (omega arith), firstOf-cong f h k (i + 1) (λ j a b. e j (omega arith) (omega arith)))
-
-pub first-cong : (f h : ℕ → Bool) (i e : ℕ) → ((j : ℕ) → i ≤ j → j < e → f j ≡ h j) → first f i e ≡ first h i e
-first-cong f h i e p = firstOf-cong f h (e - i) i (λ j a b. p j a (omega arith))
 
 -- 6 depends only on what the states below n reach
 pub all-reached-cong : (n : ℕ) (f h : ℕ → ℕ → Bool) (given : ℕ) → ((i j : ℕ) → i < n → j < n → f i j ≡ h i j)
@@ -139,74 +128,47 @@ module _ (n : ℕ) (rate : Rates) where
 
 -- ---- the whole verdict
 
-module _ (n : ℕ) (starts columns rates : List ℕ) where
-  all-reached-says : Sound n starts columns rates
-      → AnswerSays n starts columns rates (allReached n (via (rateIn starts columns rates) n) (length columns))
+module _ (c : Rows) where
+  -- whether i reaches j
+  abbrev reached : ℕ → ℕ → Bool
+  reached = via (rateIn c) (c .order)
+
+  all-reached-says : Sound c → AnswerSays c (allReached (c .order) reached (length (c .columns)))
   unfolding allReached
-  all-reached-says s = go (ltb (lowestFrom n (via (rateIn starts columns rates) n)) n) refl
+  all-reached-says s = go (ltb (lowestFrom (c .order) reached) (c .order)) refl
     where
-      go : (b : Bool) → ltb (lowestFrom n (via (rateIn starts columns rates) n)) n ≡ b
-          → AnswerSays n starts columns rates
+      go : (b : Bool) → ltb (lowestFrom (c .order) reached) (c .order) ≡ b
+          → AnswerSays c
           (cond b
-          (refuses of-chain (numbered 6 (lowestFrom n (via (rateIn starts columns rates) n)) (lowestTo n (via (rateIn starts columns rates) n) (lowestFrom n (via (rateIn starts columns rates) n)))))
-          (accepts (length columns)))
-      go true t = unreached s (pair-found n (rateIn starts columns rates) (ltb-true _ _ t))
-      go false t = has-answer s (none-missing n (rateIn starts columns rates) (ltb-false _ _ t))
+          (refuses of-chain (numbered 6 (lowestFrom (c .order) reached) (lowestTo (c .order) reached (lowestFrom (c .order) reached))))
+          (accepts (length (c .columns))))
+      go true t = unreached s (pair-found (c .order) (rateIn c) (ltb-true _ _ t))
+      go false t = has-answer s (none-missing (c .order) (rateIn c) (ltb-false _ _ t))
 
   -- what the verdict says of the chain holds
-  pub answered-says : AnswerSays n starts columns rates (answered n starts columns rates)
+  pub answered-says : AnswerSays c (answered c)
   unfolding answered
-  answered-says = go (checked n starts columns rates) refl
+  answered-says = go (checked c) refl
     where
-      go : (v : Verdict ℕ) → checked n starts columns rates ≡ v
-          → AnswerSays n starts columns rates (andThen v (λ _. allReached n (via (rateIn starts columns rates) n) (length columns)))
-      go (accepts k) e = all-reached-says (accepted-sound n starts columns rates e)
-      go (refuses side line) e = rule-broken e
+      go : (v : Verdict ℕ) → checked c ≡ v → AnswerSays c (andThen v (λ _. allReached (c .order) reached (length (c .columns))))
+      go (accepts k) e = all-reached-says (accepted-sound c e)
+      go (refuses side line) e = rule-broken (rw e at (checked-says c))
 
   -- a verdict whose facts hold is the verdict
-  pub says-answered : {v : Verdict ℕ} → AnswerSays n starts columns rates v → v ≡ answered n starts columns rates
+  pub says-answered : {v : Verdict ℕ} → AnswerSays c v → v ≡ answered c
   unfolding answered
-  says-answered (rule-broken e) = rw e
-  says-answered (unreached s h) = rw (sound-accepted n starts columns rates s) (unreached-is n (rateIn starts columns rates) (length columns) h)
-  says-answered (has-answer s h) = rw (sound-accepted n starts columns rates s) (has-answer-is n (rateIn starts columns rates) (length columns) h)
+  says-answered (rule-broken s) = rw (← says-checked c s)
+  says-answered (unreached s h) = rw (sound-accepted c s) (unreached-is (c .order) (rateIn c) (length (c .columns)) h)
+  says-answered (has-answer s h) = rw (sound-accepted c s) (has-answer-is (c .order) (rateIn c) (length (c .columns)) h)
 
   -- a chain is accepted if and only if the rules hold and it has an answer
-  pub answer-accepted : Sound n starts columns rates → HasAnswer n (rateIn starts columns rates)
-      → answered n starts columns rates ≡ accepts (length columns)
+  pub answer-accepted : Sound c → HasAnswer (c .order) (rateIn c) → answered c ≡ accepts (length (c .columns))
   answer-accepted s h = sym (says-answered (has-answer s h))
 
-  pub accepted-answer : {k : ℕ} → answered n starts columns rates ≡ accepts k
-      → (checked n starts columns rates ≡ accepts k) × HasAnswer n (rateIn starts columns rates)
-  accepted-answer {k} e = of-says (answered n starts columns rates) answered-says e
+  pub accepted-answer : {k : ℕ} → answered c ≡ accepts k → Sound c × HasAnswer (c .order) (rateIn c)
+  accepted-answer {k} e = of-says (answered c) answered-says e
     where
-      of-says : (v : Verdict ℕ) → AnswerSays n starts columns rates v → v ≡ accepts k
-          → (checked n starts columns rates ≡ accepts k) × HasAnswer n (rateIn starts columns rates)
-      of-says v (has-answer s h) q = (sound-accepted n starts columns rates s ∙ q, h)
+      of-says : (v : Verdict ℕ) → AnswerSays c v → v ≡ accepts k → Sound c × HasAnswer (c .order) (rateIn c)
+      of-says v (has-answer s h) q = (s, h)
       of-says v (rule-broken e) q = let z : _≡_ {A = ℕ} 0 1 = cc in absurd (omega arith)
       of-says v (unreached s h) q = let z : _≡_ {A = ℕ} 0 1 = cc in absurd (omega arith)
-
-  -- 6 comes from the reached states alone, and names the lowest pair
-  not-6 : {side : Side} {i j : ℕ} → checked n starts columns rates ≡ refuses side (numbered 6 i j) → ⊥
-  not-6 {side} {i} {j} e = of-says (checked n starts columns rates) (checked-says n starts columns rates) e
-    where
-      of-says : (v : Verdict ℕ) → Says n starts columns rates v → v ≡ refuses side (numbered 6 i j) → ⊥
-      of-says v (order-broken h) q = let z : numbered 1 0 0 ≡ numbered 6 i j = cc in omega (arith, ap (λ (x : Line). x .number) z)
-      of-says v (lengths-broken o h) q = let z : numbered 2 0 0 ≡ numbered 6 i j = cc in omega (arith, ap (λ (x : Line). x .number) z)
-      of-says v (starts-broken o e h) q = let z : numbered 3 0 0 ≡ numbered 6 i j = cc in omega (arith, ap (λ (x : Line). x .number) z)
-      of-says v (columns-broken {row} {place} o e s h) q =
-          let z : numbered 4 row place ≡ numbered 6 i j = cc in omega (arith, ap (λ (x : Line). x .number) z)
-      of-says v (all-hold h) q = let z : _≡_ {A = ℕ} 0 1 = cc in omega arith
-
-  pub unreached-pair : {i j : ℕ} → answered n starts columns rates ≡ refuses of-chain (numbered 6 i j)
-      → Sound n starts columns rates × LowestPair n (rateIn starts columns rates) i j
-  unreached-pair {i} {j} e = of-says (answered n starts columns rates) answered-says e
-    where
-      of-says : (v : Verdict ℕ) → AnswerSays n starts columns rates v → v ≡ refuses of-chain (numbered 6 i j)
-          → Sound n starts columns rates × LowestPair n (rateIn starts columns rates) i j
-      of-says v (rule-broken e) q = absurd (not-6 (e ∙ q))
-      of-says v (unreached {i = p} {j = r} s h) q =
-          let z : numbered 6 p r ≡ numbered 6 i j = cc in
-          let a : p ≡ i = ap (λ (x : Line). x .first) z in
-          let b : r ≡ j = ap (λ (x : Line). x .second) z in
-          (s, rw (a, b) at h)
-      of-says v (has-answer s h) q = let z : _≡_ {A = ℕ} 0 1 = cc in absurd (omega arith)

@@ -5,19 +5,24 @@ use mathlib.Core.List.{List}
 use mathlib.Core.Path.{_≡_, refl, sym, ap, _∙_}
 use native.Mathlib.Omega.{arith}
 use lib.Dec.{ltb}
-use lib.ListN.{getD}
+use lib.ListN.{length, getD}
 use borrow.Author.Tests.{lt-ltb, le-ltb, ltb-true, ltb-false, ne-eqb}
-use Rattle.refusal.specs.Table.{Verdict, Side, accepts, refuses}
+use Rattle.refusal.specs.Table.{Verdict, Side, accepts, refuses, refusal, verdict}
+use Rattle.refusal.specs.declared.Outcome.{Outcome}
+use Rattle.refusal.specs.declared.Outcome.the-variants.{Refused}
+use Rattle.refusal.specs.declared.Refusal.{Refusal}
 use Rattle.refusal.specs.declared.Line.{Line}
 use Rattle.markov.specs.Chain.{Rates}
+use Rattle.chain.specs.Rows.{Rows}
 use Rattle.chain.specs.Rules.{checked}
 use Rattle.chain.specs.Sound.{Sound}
 use Rattle.chain.specs.Meaning.{rateIn}
-use Rattle.chain.proofs.Tests.{and-no, and-no-first, and-decides, or-no}
-use Rattle.chain.proofs.Reading.{sound-accepted, accepted-count}
+use Rattle.basics.proofs.BoolLaws.{and-no, and-no-first, and-decides, or-no}
+use Rattle.chain.proofs.Reading.{checked-says, sound-accepted, accepted-sound}
 use Rattle.chain.proofs.RateLaws.{rate-beyond}
-use Rattle.reach.specs.Reach.{via, viaBelow, stands, bits, isAccepted, reaches, Hold, ReachMasks}
-use Rattle.reach.specs.Answer.{allReached, answered, AnswerSays}
+use Rattle.reach.specs.Reach.{via, stands, bits, isAccepted, reaches, Hold, ReachMasks}
+use Rattle.reach.specs.Inner.{viaBelow}
+use Rattle.reach.specs.Answer.{allReached, answered, AnswerSays, rule-broken}
 use Rattle.reach.proofs.AnswerLaws.{all-reached-cong, answered-says}
 use Rattle.reach.proofs.MaskLaws.{no-bits, zeros, hold-zeros}
 use Rattle.reach.proofs.ViaLaws.{via-iff}
@@ -35,64 +40,55 @@ guarded ok true true v e h = rw e
 guarded ok true false v e h = rw e (h refl refl)
 guarded ok false to v e h = rw e
 
-module _ (n : ℕ) (starts columns rates masks : List ℕ) where
-  pub masks-accepted : Sound n starts columns rates → Hold masks (viaBelow n (rateIn starts columns rates) n) → Hold masks (reaches n starts columns rates)
+module _ (c : Rows) (masks : List ℕ) where
+  pub masks-accepted : Sound c → Hold masks (viaBelow (c .order) (rateIn c) (c .order)) → Hold masks (reaches c)
   unfolding reaches
   masks-accepted s h =
       record {
         bit = λ i j. h .bit i j
-            ∙ guarded _ (ltb i n) (ltb j n) (via (rateIn starts columns rates) n i j)
-            (ap isAccepted (sound-accepted n starts columns rates s))
-            (λ a b. via-beyond n (rateIn starts columns rates) (λ p q l m. rate-beyond s p l q m) n i j (omega arith) (ltb-true _ _ a) (ltb-false _ _ b));
+            ∙ guarded _ (ltb i (c .order)) (ltb j (c .order)) (via (rateIn c) (c .order) i j)
+            (ap isAccepted (sound-accepted c s))
+            (λ a b. via-beyond (c .order) (rateIn c) (λ p q l m. rate-beyond s p l q m) (c .order) i j (omega arith) (ltb-true _ _ a) (ltb-false _ _ b));
       }
 
-  -- for states below n the bits say who reaches whom
-  pub masks-mean : Hold masks (reaches n starts columns rates) → ReachMasks n starts columns rates masks
+  -- for states below n the bits say who reaches whom; a mask at n or above is 0, and every mask of a refused chain
+  pub masks-mean : Hold masks (reaches c) → ReachMasks c masks
   unfolding reaches
   masks-mean h = record {
     reached = λ s i j a b.
-        let e : stands (getD masks i 0) j ≡ via (rateIn starts columns rates) n i j =
-        h .bit i j ∙ rw (sound-accepted n starts columns rates s, lt-ltb i n a, lt-ltb j n b) in
-        let t = via-iff (rateIn starts columns rates) n i j b in
+        let e : stands (getD masks i 0) j ≡ via (rateIn c) (c .order) i j = h .bit i j ∙ rw (sound-accepted c s, lt-ltb i (c .order) a, lt-ltb j (c .order) b) in
+        let t = via-iff (rateIn c) (c .order) i j b in
         (λ x. t .0 (sym e ∙ x), λ r. e ∙ t .1 r);
+    none-beyond = λ i l.
+        no-bits (getD masks i 0)
+        (λ j. h .bit i j ∙ and-no-first _ _ (and-no-first _ _ (and-no (isAccepted (checked c)) _ (le-ltb i (c .order) l))));
+    none-refused = λ broken i. no-bits (getD masks i 0) (λ j. h .bit i j ∙ rw (refused (checked c) refl broken));
   }
+    where
+      refused : (v : Verdict ℕ) → checked c ≡ v → (Sound c → ⊥) → isAccepted (checked c) ≡ false
+      refused (accepts k) e broken = absurd (broken (accepted-sound c e))
+      refused (refuses side line) e broken = ap isAccepted e
 
-  -- a mask at n or above is 0
-  pub mask-beyond : Hold masks (reaches n starts columns rates) → (i : ℕ) → n ≤ i → getD masks i 0 ≡ 0
+module _ (c : Rows) where
+  -- no bit stands for a refused chain
+  pub masks-refused : {side : Side} {line : Line} → checked c ≡ refuses side line → Hold zeros (reaches c)
   unfolding reaches
-  mask-beyond h i l =
-      no-bits (getD masks i 0)
-      (λ j. h .bit i j
-      ∙ and-no-first _ _ (and-no-first _ _ (and-no (isAccepted (checked n starts columns rates)) _ (le-ltb i n l))))
+  masks-refused e = hold-zeros _ (λ i j. rw e)
 
-  -- so is every mask of a refused chain
-  pub mask-refused : Hold masks (reaches n starts columns rates) → {side : Side} {line : Line}
-      → checked n starts columns rates ≡ refuses side line → (i : ℕ) → getD masks i 0 ≡ 0
-  unfolding reaches
-  mask-refused h e i = no-bits (getD masks i 0) (λ j. h .bit i j ∙ rw e)
+  -- ---- 1 to 4, then 6 from the masks; what is computed means what it says
 
--- no bit stands for a refused chain
-pub masks-refused : (n : ℕ) (starts columns rates : List ℕ) {side : Side} {line : Line} → checked n starts columns rates ≡ refuses side line
-    → Hold zeros (reaches n starts columns rates)
-unfolding reaches
-masks-refused n starts columns rates e = hold-zeros _ (λ i j. rw e)
-
--- ---- 1 to 4, then 6 from the masks
-
-module _ (n : ℕ) (starts columns rates : List ℕ) where
-  pub rule-refused : {side : Side} {line : Line} → checked n starts columns rates ≡ refuses side line
-      → refuses side line ≡ answered n starts columns rates
+  pub rule-refused : {o : Outcome} {f : Refusal} → verdict o ≡ checked c → o ≡ Refused f → (verdict o ≡ answered c) × AnswerSays c (verdict o)
   unfolding answered
-  rule-refused e = rw e
+  rule-refused {f = f} q t =
+      let e : checked c ≡ refusal f = sym q ∙ ap verdict t in
+      (rw (t, e), rw t (rule-broken (rw e at (checked-says c))))
 
-  pub masks-answer : {k : ℕ} (v : Verdict ℕ) (masks : List ℕ) → checked n starts columns rates ≡ accepts k
-      → Hold masks (viaBelow n (rateIn starts columns rates) n) → v ≡ allReached n (bits masks) k → v ≡ answered n starts columns rates
+  pub masks-answer : {v : Verdict ℕ} {masks : List ℕ} → Sound c → Hold masks (viaBelow (c .order) (rateIn c) (c .order))
+      → v ≡ allReached (c .order) (bits masks) (length (c .columns)) → (v ≡ answered c) × AnswerSays c v
   unfolding answered
-  masks-answer {k} v masks e h p =
-      rw (e, ← accepted-count n starts columns rates e)
-      (p ∙ all-reached-cong n (bits masks) (via (rateIn starts columns rates) n) k
-      (λ i j a b. h .bit i j ∙ and-decides _ _ (lt-ltb i n a)))
-
-  -- what is computed means what it says
-  pub answer-says : (v : Verdict ℕ) → v ≡ answered n starts columns rates → AnswerSays n starts columns rates v
-  answer-says v e = rw e (answered-says n starts columns rates)
+  masks-answer {v} {masks} s h p = (e, rw e (answered-says c))
+    where
+      e : v ≡ answered c
+      e =
+          rw (sound-accepted c s)
+          (p ∙ all-reached-cong (c .order) (bits masks) (via (rateIn c) (c .order)) _ (λ i j a b. h .bit i j ∙ and-decides _ _ (lt-ltb i (c .order) a)))

@@ -11,11 +11,13 @@ use lib.Bits.{bitOr}
 use lib.Dec.{eqb, ltb}
 use lib.ListN.{length, getD, set, length-set}
 use borrow.Author.Tests.{lt-ltb, le-ltb}
-use Rattle.factors.specs.Sum.{sum}
-use Rattle.factors.proofs.SumLaws.{sum-zero, sum-last}
+use Rattle.basics.specs.Sum.{sum}
+use Rattle.basics.proofs.SumLaws.{sum-zero, sum-last}
+use Rattle.chain.specs.Rows.{Rows, begins, ends}
 use Rattle.chain.specs.Meaning.{adds, rateIn}
-use Rattle.chain.proofs.Tests.{and-no-first, and-decides}
-use Rattle.reach.specs.Reach.{via, viaBelow, stands, Hold}
+use Rattle.basics.proofs.BoolLaws.{and-no-first, and-decides}
+use Rattle.reach.specs.Reach.{via, stands, Hold}
+use Rattle.reach.specs.Inner.{viaBelow}
 use Rattle.reach.proofs.MaskLaws.{stands-or, stands-zero, stands-past, hold-set, zeros, hold-zeros}
 
 -- what is added under a test
@@ -100,20 +102,20 @@ below-more p i d =
     ]
 
 -- the masks of the states below n hold the paths by way of states below k, and no other bit
-pub record Reached (n : ℕ) (starts columns rates : List ℕ) (k : ℕ) (masks : List ℕ) : Type 0 where
-  pub held : Hold masks (viaBelow n (rateIn starts columns rates) k)
+pub record Reached (n : ℕ) (c : Rows) (k : ℕ) (masks : List ℕ) : Type 0 where
+  pub held : Hold masks (viaBelow n (rateIn c) k)
 
-pub first-none : (starts columns rates : List ℕ) → Reached 0 starts columns rates 0 zeros
-first-none starts columns rates = record { held = hold-zeros _ (λ i j. and-no-first _ _ (le-ltb i 0 (omega arith))) }
+pub first-none : (c : Rows) → Reached 0 c 0 zeros
+first-none c = record { held = hold-zeros _ (λ i j. and-no-first _ _ (le-ltb i 0 (omega arith))) }
 
-pub first-more : {i : ℕ} {starts columns rates masks : List ℕ} → Reached i starts columns rates 0 masks → (mask : ℕ) → i < length masks
-    → ((j : ℕ) → stands mask j ≡ (eqb i j || ltb 0 (sum (getD starts (i + 1) 0 - getD starts i 0) (λ q. adds columns rates j (getD starts i 0 + q)))))
-    → Reached (i + 1) starts columns rates 0 (set masks i mask)
+pub first-more : {i : ℕ} {c : Rows} {masks : List ℕ} → Reached i c 0 masks → (mask : ℕ) → i < length masks
+    → ((j : ℕ) → stands mask j ≡ (eqb i j || ltb 0 (sum (ends c i - begins c i) (λ q. adds (c .columns) (c .rates) j (begins c i + q)))))
+    → Reached (i + 1) c 0 (set masks i mask)
 unfolding via rateIn
-first-more {i} {starts} {columns} {rates} {masks} h mask l row = record {
-  held = hold-set masks i mask (viaBelow i (rateIn starts columns rates) 0) (viaBelow (i + 1) (rateIn starts columns rates) 0) l (h .held)
+first-more {i} {c} {masks} h mask l row = record {
+  held = hold-set masks i mask (viaBelow i (rateIn c) 0) (viaBelow (i + 1) (rateIn c) 0) l (h .held)
       (λ j. row j ∙ sym (and-decides _ _ (lt-ltb i (i + 1) (omega arith))))
-      (λ p j d. ap (λ (b : Bool). b && via (rateIn starts columns rates) 0 p j) (below-more p i d));
+      (λ p j d. ap (λ (b : Bool). b && via (rateIn c) 0 p j) (below-more p i d));
 }
 
 -- ---- one step of the closure
@@ -160,18 +162,18 @@ module _ {k through : ℕ} {old : List ℕ} {i : ℕ} {next : List ℕ} (h : Pas
       record { bit = λ p j. h .held .bit p j ∙ elim (decLt p i) [ yes m ↦ rw (lt-ltb p i m) | no m ↦ past p j (omega (arith, h .long)) (omega arith) ] }
 
 -- the step at k < n takes the paths by way of states below k to those below k + 1
-pub close-more : {n : ℕ} {starts columns rates : List ℕ} {k : ℕ} {old : List ℕ} → Reached n starts columns rates k old → (new : List ℕ) → k < n
-    → Hold new (stepped k (getD old k 0) old) → Reached n starts columns rates (k + 1) new
+pub close-more : {n : ℕ} {c : Rows} {k : ℕ} {old : List ℕ} → Reached n c k old → (new : List ℕ) → k < n
+    → Hold new (stepped k (getD old k 0) old) → Reached n c (k + 1) new
 unfolding via
-close-more {n} {starts} {columns} {rates} {k} {old} h new l s =
+close-more {n} {c} {k} {old} h new l s =
     rw (add-one k) (record { held = record { bit = λ i j. s .bit i j ∙ parts i j ∙ joined (ltb i n) _ _ _ } })
   where
-    from-k : (j : ℕ) → stands (getD old k 0) j ≡ via (rateIn starts columns rates) k k j
+    from-k : (j : ℕ) → stands (getD old k 0) j ≡ via (rateIn c) k k j
     from-k j = h .held .bit k j ∙ and-decides _ _ (lt-ltb k n l)
 
     parts : (i j : ℕ) → stepped k (getD old k 0) old i j
-        ≡ ((ltb i n && via (rateIn starts columns rates) k i j)
-        || ((ltb i n && via (rateIn starts columns rates) k i k) && via (rateIn starts columns rates) k k j))
+        ≡ ((ltb i n && via (rateIn c) k i j)
+        || ((ltb i n && via (rateIn c) k i k) && via (rateIn c) k k j))
     parts i j = rw (h .held .bit i j, h .held .bit i k, from-k j)
 
     joined : (b x y z : Bool) → ((b && x) || ((b && y) && z)) ≡ (b && (x || (y && z)))

@@ -2,16 +2,15 @@
 -- another", with "the lowest from, then the lowest to".
 use Prim.Native.Nat.{ℕ, _<_}
 use mathlib.Core.Bool.{Bool, cond, not}
-use mathlib.Core.List.{List}
-use mathlib.Core.Path.{_≡_}
 use lib.Dec.{ltb}
 use lib.ListN.{length}
-use Rattle.refusal.specs.First.{first}
+use Rattle.basics.specs.First.{first}
 use Rattle.refusal.specs.Table.{Verdict, Side, accepts, refuses, of-chain, numbered, andThen}
 use Rattle.refusal.specs.declared.Line.{Line}
 use Rattle.markov.specs.Chain.{Rates, Reaches, HasAnswer}
+use Rattle.chain.specs.Rows.{Rows}
 use Rattle.chain.specs.Rules.{checked}
-use Rattle.chain.specs.Sound.{Sound}
+use Rattle.chain.specs.Sound.{Sound, Says}
 use Rattle.chain.specs.Meaning.{rateIn}
 use Rattle.reach.specs.Reach.{via}
 
@@ -31,9 +30,8 @@ allReached n reached given =
     (accepts given)
 
 -- the first of 1 to 4 and 6 that applies, or the number of entries
-unfoldable pub answered : ℕ → List ℕ → List ℕ → List ℕ → Verdict ℕ
-answered n starts columns rates =
-    andThen (checked n starts columns rates) (λ _. allReached n (via (rateIn starts columns rates) n) (length columns))
+unfoldable pub answered : Rows → Verdict ℕ
+answered c = andThen (checked c) (λ _. allReached (c .order) (via (rateIn c) (c .order)) (length (c .columns)))
 
 -- i is the lowest state that does not reach some other, and j the lowest that it does not reach
 pub record LowestPair (n : ℕ) (rate : Rates) (i j : ℕ) : Type 0 where
@@ -44,10 +42,7 @@ pub record LowestPair (n : ℕ) (rate : Rates) (i j : ℕ) : Type 0 where
   pub to-lowest : (q : ℕ) → q < j → Reaches n rate i q
 
 -- what each verdict of 1 to 4 and 6 says of a chain
-pub data AnswerSays (n : ℕ) (starts columns rates : List ℕ) : Verdict ℕ → Type 0 where
-  rule-broken : {side : Side} {line : Line} → checked n starts columns rates ≡ refuses side line
-      → AnswerSays n starts columns rates (refuses side line)
-  unreached : {i j : ℕ} → Sound n starts columns rates → LowestPair n (rateIn starts columns rates) i j
-      → AnswerSays n starts columns rates (refuses of-chain (numbered 6 i j))
-  has-answer : Sound n starts columns rates → HasAnswer n (rateIn starts columns rates)
-      → AnswerSays n starts columns rates (accepts (length columns))
+pub data AnswerSays (c : Rows) : Verdict ℕ → Type 0 where
+  rule-broken : {side : Side} {line : Line} → Says c (refuses side line) → AnswerSays c (refuses side line)
+  unreached : {i j : ℕ} → Sound c → LowestPair (c .order) (rateIn c) i j → AnswerSays c (refuses of-chain (numbered 6 i j))
+  has-answer : Sound c → HasAnswer (c .order) (rateIn c) → AnswerSays c (accepts (length (c .columns)))

@@ -4,12 +4,14 @@ ghost use mathlib.Core.Bool.{_&&_, _||_, not};
 ghost use Prim.Native.Nat.{ℕ, _+_, _-_, _<_, _≤_};
 ghost use lib.ListN.{length, getD};
 ghost use lib.Dec.{eqb, ltb};
-ghost use Rattle.factors.specs.Sum.{sum};
-ghost use Rattle.refusal.specs.First.{first};
+ghost use Rattle.basics.specs.Sum.{sum};
+ghost use Rattle.basics.specs.First.{first};
 ghost use Rattle.refusal.specs.Table.{verdict};
+ghost use Rattle.chain.specs.Rows.{inRows};
 ghost use Rattle.chain.specs.Sound.{Sound};
 ghost use Rattle.chain.specs.Meaning.{adds, rateIn};
-ghost use Rattle.reach.specs.Reach.{stands, bits, viaBelow, reaches, Hold, ReachMasks};
+ghost use Rattle.reach.specs.Reach.{stands, bits, reaches, Hold, ReachMasks};
+ghost use Rattle.reach.specs.Inner.{viaBelow};
 ghost use Rattle.reach.specs.Answer.{allReached, answered, AnswerSays};
 use refusal::ChainReason;
 use refusal::Outcome;
@@ -62,8 +64,8 @@ fn row_mask(row: usize, begin: usize, end: usize, columns: &[u32], rates: &[u32]
 
 // The masks before the first step of the closure.
 fn first_masks(n: usize, starts: &[u32], columns: &[u32], rates: &[u32]) -> Masks
-    requires { ⌜ Sound n (now starts) (now columns) (now rates) ⌝ }
-    ensures { λ r. ⌜ Hold (r .rows) (viaBelow n (rateIn (now (starts .entry)) (now (columns .entry)) (now (rates .entry))) 0) ⌝ }
+    requires { ⌜ Sound (inRows n starts columns rates) ⌝ }
+    ensures { λ r. ⌜ Hold (r .rows) (viaBelow n (rateIn (inRows n (starts .entry) (columns .entry) (rates .entry))) 0) ⌝ }
 {
     let mut masks = Masks { rows: [0; 64] };
     for i in 0..n {
@@ -97,8 +99,8 @@ fn close_over(masks: Masks, k: usize) -> Masks
 
 // The masks of a chain whose rules hold.
 fn closed(n: usize, starts: &[u32], columns: &[u32], rates: &[u32]) -> Masks
-    requires { ⌜ Sound n (now starts) (now columns) (now rates) ⌝ }
-    ensures { λ r. ⌜ Hold (r .rows) (viaBelow n (rateIn (now (starts .entry)) (now (columns .entry)) (now (rates .entry))) n) ⌝ }
+    requires { ⌜ Sound (inRows n starts columns rates) ⌝ }
+    ensures { λ r. ⌜ Hold (r .rows) (viaBelow n (rateIn (inRows n (starts .entry) (columns .entry) (rates .entry))) n) ⌝ }
 {
     let mut masks = first_masks(n, starts, columns, rates);
     for k in 0..n {
@@ -107,11 +109,10 @@ fn closed(n: usize, starts: &[u32], columns: &[u32], rates: &[u32]) -> Masks
     masks
 }
 
-// The states that each state reaches; no bit stands for a chain refused by 1 to 4. That masks without a bit are 0:
-// `mask-refused` and `mask-beyond` of proofs/ReachLaws.
+// The states that each state reaches; no bit stands for a chain refused by 1 to 4.
 pub fn reach_masks(n: usize, starts: &[u32], columns: &[u32], rates: &[u32]) -> Masks
-    ensures bits { λ r. ⌜ Hold (r .rows) (reaches n (now (starts .entry)) (now (columns .entry)) (now (rates .entry))) ⌝ }
-    ensures meaning { λ r. ⌜ ReachMasks n (now (starts .entry)) (now (columns .entry)) (now (rates .entry)) (r .rows) ⌝ }
+    ensures bits { λ r. ⌜ Hold (r .rows) (reaches (inRows n (starts .entry) (columns .entry) (rates .entry))) ⌝ }
+    ensures meaning { λ r. ⌜ ReachMasks (inRows n (starts .entry) (columns .entry) (rates .entry)) (r .rows) ⌝ }
 {
     let answer = chain::check(n, starts, columns, rates);
     let Outcome::Done(_) = answer else {
@@ -166,14 +167,23 @@ fn check_reached(masks: Masks, n: usize, entries: usize) -> Outcome
     Outcome::Done(entries)
 }
 
+// The same answer as `check_answer` where 1 to 4 were checked before, as `check_answer` and `solve` do: refusal 6, or the number of entries.
+pub fn check_sound(n: usize, starts: &[u32], columns: &[u32], rates: &[u32]) -> Outcome
+    requires { ⌜ Sound (inRows n starts columns rates) ⌝ }
+    ensures computed { λ r. ⌜ verdict r ≡ answered (inRows n (starts .entry) (columns .entry) (rates .entry)) ⌝ }
+    ensures meaning { λ r. ⌜ AnswerSays (inRows n (starts .entry) (columns .entry) (rates .entry)) (verdict r) ⌝ }
+{
+    check_reached(closed(n, starts, columns, rates), n, columns.len())
+}
+
 // The first of 1 to 4 and 6 that applies, or the number of entries of a chain that has an answer.
 pub fn check_answer(n: usize, starts: &[u32], columns: &[u32], rates: &[u32]) -> Outcome
-    ensures computed { λ r. ⌜ verdict r ≡ answered n (now (starts .entry)) (now (columns .entry)) (now (rates .entry)) ⌝ }
-    ensures meaning { λ r. ⌜ AnswerSays n (now (starts .entry)) (now (columns .entry)) (now (rates .entry)) (verdict r) ⌝ }
+    ensures computed { λ r. ⌜ verdict r ≡ answered (inRows n (starts .entry) (columns .entry) (rates .entry)) ⌝ }
+    ensures meaning { λ r. ⌜ AnswerSays (inRows n (starts .entry) (columns .entry) (rates .entry)) (verdict r) ⌝ }
 {
     let answer = chain::check(n, starts, columns, rates);
-    let Outcome::Done(entries) = answer else {
+    let Outcome::Done(_) = answer else {
         return answer;
     };
-    check_reached(closed(n, starts, columns, rates), n, entries)
+    check_sound(n, starts, columns, rates)
 }

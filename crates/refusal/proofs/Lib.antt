@@ -1,3 +1,3 @@
--- Laws of the table, of the first number at which a test holds, and of a choice by a test.
+-- Laws of the table, and what an accepted verdict says.
 pub mod TableLaws
-pub mod FirstLaws
+pub mod VerdictLaws

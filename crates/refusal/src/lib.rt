@@ -1,5 +1,5 @@
 ghost use mathlib.Core.Path.{_≡_};
-ghost use Rattle.refusal.specs.Table.{line};
+ghost use Rattle.refusal.specs.Table.{numbered, line};
 
 // Why a chain is turned away. The places are those of document 01's table.
 pub enum ChainReason {
@@ -42,40 +42,26 @@ pub struct Line {
     pub second: usize,
 }
 
+fn table_line(number: u32, first: usize, second: usize) -> Line
+    ensures { λ r. ⌜ r ≡ numbered number first second ⌝ }
+{
+    Line {
+        number,
+        first,
+        second,
+    }
+}
+
 fn chain_line(reason: ChainReason) -> Line
     ensures { λ r. ⌜ r ≡ line (Refusal.Chain reason) ⌝ }
 {
     match reason {
-        ChainReason::Order => Line {
-            number: 1,
-            first: 0,
-            second: 0,
-        },
-        ChainReason::Lengths => Line {
-            number: 2,
-            first: 0,
-            second: 0,
-        },
-        ChainReason::Starts => Line {
-            number: 3,
-            first: 0,
-            second: 0,
-        },
-        ChainReason::Columns(row, place) => Line {
-            number: 4,
-            first: row,
-            second: place,
-        },
-        ChainReason::Room => Line {
-            number: 5,
-            first: 0,
-            second: 0,
-        },
-        ChainReason::Unreached(from, to) => Line {
-            number: 6,
-            first: from,
-            second: to,
-        },
+        ChainReason::Order => table_line(1, 0, 0),
+        ChainReason::Lengths => table_line(2, 0, 0),
+        ChainReason::Starts => table_line(3, 0, 0),
+        ChainReason::Columns(row, place) => table_line(4, row, place),
+        ChainReason::Room => table_line(5, 0, 0),
+        ChainReason::Unreached(from, to) => table_line(6, from, to),
     }
 }
 
@@ -83,31 +69,11 @@ fn bytes_line(reason: BytesReason) -> Line
     ensures { λ r. ⌜ r ≡ line (Refusal.Bytes reason) ⌝ }
 {
     match reason {
-        BytesReason::Order => Line {
-            number: 1,
-            first: 0,
-            second: 0,
-        },
-        BytesReason::Room => Line {
-            number: 5,
-            first: 0,
-            second: 0,
-        },
-        BytesReason::Short => Line {
-            number: 8,
-            first: 0,
-            second: 0,
-        },
-        BytesReason::Bit(row, bit) => Line {
-            number: 9,
-            first: row,
-            second: bit,
-        },
-        BytesReason::Extra => Line {
-            number: 10,
-            first: 0,
-            second: 0,
-        },
+        BytesReason::Order => table_line(1, 0, 0),
+        BytesReason::Room => table_line(5, 0, 0),
+        BytesReason::Short => table_line(8, 0, 0),
+        BytesReason::Bit(row, bit) => table_line(9, row, bit),
+        BytesReason::Extra => table_line(10, 0, 0),
     }
 }
 

@@ -1,36 +1,75 @@
--- The refused lines of document 01's cases, by evaluation: the cut-off input of case 2, and cases 6, 7 and 9. Assumes nothing.
-use mathlib.Core.List.{[], _∷_}
+-- The texts that document 01 prints, byte by byte, by evaluation of the definitions. Like the table of the worked cases, and unlike every
+-- other file above `scaled`, it unfolds the definitions of the operations on scaled numbers, since it states digits. Assumes nothing.
+use mathlib.Core.List.{List, [], _∷_}
 use mathlib.Core.Path.{_≡_, refl}
-use Rattle.factors.specs.Sum.{sum}
-use Rattle.chain.specs.Rules.{checked, startsSound, columnsChecked, entryBad}
+use Prim.Native.Nat.{ℕ, _<_}
+use native.Mathlib.Decide.{decLt}
+use native.Mathlib.Omega.{arith}
+use borrow.Author.Tests.{ltb-true}
+use lib.Dec.{ltb, lit<}
+use lib.ListN.{getD, List·getD-eq-default}
+use Rattle.basics.specs.Sum.{sum}
+use Rattle.basics.specs.Below.{all}
+use Rattle.basics.proofs.BoolLaws.{all-at}
+use Rattle.scaled.specs.Scaled.{bitLengthUpTo, bitLength, isScaledAt, cut, roundedSum, roundedProduct, roundedQuotient, converted, isScaled, sumOf, productOf, quotientOf, rateOf}
+use Rattle.scaled.specs.Units.{oneNumber}
+use Rattle.markov.specs.Elimination as elimination
+use Rattle.markov.specs.Count.{boundCount}
+use Rattle.chain.specs.Rules.{startsSound, entryBad, columnsChecked, checked}
 use Rattle.chain.specs.Meaning.{rateIn}
 use Rattle.reach.specs.Reach.{via}
 use Rattle.reach.specs.Answer.{allReached, answered}
-use Rattle.storage.specs.Bytes.{bitAt, rateAt}
-use Rattle.storage.specs.Reading.{rateChecked, rowChecked, fileChecked, roomFor, readVerdict}
-use Rattle.solver.specs.Solve.{solved}
-use Rattle.decimal.specs.Decimal.{digits, decimal}
-use Rattle.decimal.specs.Lines.{refusedLine}
-use Rattle.report.specs.Report.{solvedText, reportOf}
+use Rattle.kernel.specs.Numbers.{plus, times, dividedBy}
+use Rattle.storage.specs.Bytes.{bitAt, storedRate}
+use Rattle.storage.specs.Reading.{fileChecked, rowChecked, rateChecked}
+use Rattle.solver.specs.Solve.{entries, weightsOf, sharesOf, solved}
+use Rattle.decimal.specs.Decimal.{decimalDigits, decimal, signed}
+use Rattle.report.specs.Lines.{headerLine, stateLine, stateLines, refusedLine}
+use Rattle.report.specs.Report.{solvedText, reportOf, Printed}
+use Rattle.report.proofs.EndToEnd.{end-to-end}
 
 -- "Cut-off input of case 2, bytes 02 02 03, prints "refused 8 0 0"."
 pub cut-off : reportOf (2 ∷ 2 ∷ 3 ∷ []) ≡ 114 ∷ 101 ∷ 102 ∷ 117 ∷ 115 ∷ 101 ∷ 100 ∷ 32 ∷ 56 ∷ 32 ∷ 48 ∷ 32 ∷ 48 ∷ 10 ∷ []
-unfolding reportOf readVerdict fileChecked rowChecked rateChecked bitAt refusedLine decimal digits
+unfolding reportOf fileChecked rowChecked rateChecked bitAt refusedLine decimal decimalDigits
 cut-off = refl
 
--- 6: "n = 2, 0 to 1 rate 0, 1 to 0 rate 5: refusal 6, (0, 1)"
-pub case-6 : reportOf (2 ∷ 2 ∷ 0 ∷ 0 ∷ 0 ∷ 0 ∷ 1 ∷ 5 ∷ 0 ∷ 0 ∷ 0 ∷ []) ≡ refusedLine 6 0 1
-unfolding reportOf solvedText solved readVerdict fileChecked rowChecked rateChecked roomFor bitAt rateAt
-    checked startsSound columnsChecked entryBad rateIn answered allReached via sum
-case-6 = refl
+-- two places that differ: case 6, "n = 2, 0 to 1 rate 0, 1 to 0 rate 5", prints "refused 6 0 1"
+pub unreached : reportOf (2 ∷ 2 ∷ 0 ∷ 0 ∷ 0 ∷ 0 ∷ 1 ∷ 5 ∷ 0 ∷ 0 ∷ 0 ∷ [])
+    ≡ 114 ∷ 101 ∷ 102 ∷ 117 ∷ 115 ∷ 101 ∷ 100 ∷ 32 ∷ 54 ∷ 32 ∷ 48 ∷ 32 ∷ 49 ∷ 10 ∷ []
+unfolding reportOf solvedText solved fileChecked rowChecked rateChecked bitAt storedRate
+    checked startsSound columnsChecked entryBad rateIn answered allReached via sum refusedLine decimal decimalDigits
+unreached = refl
 
--- 7: "n = 3, 0 to 1 and 1 to 0 and 2 to 0, all rate 1: refusal 6, (0, 2)"
-pub case-7 : reportOf (3 ∷ 2 ∷ 1 ∷ 0 ∷ 0 ∷ 0 ∷ 1 ∷ 1 ∷ 0 ∷ 0 ∷ 0 ∷ 1 ∷ 1 ∷ 0 ∷ 0 ∷ 0 ∷ []) ≡ refusedLine 6 0 2
-unfolding reportOf solvedText solved readVerdict fileChecked rowChecked rateChecked roomFor bitAt rateAt
-    checked startsSound columnsChecked entryBad rateIn answered allReached via sum
-case-7 = refl
+-- "Whole, for the bytes 02 02 03 00 00 00 01 01 00 00 00": "states 2 bound 8", "0 2863311530 -33 2147483648 -33" and
+-- "1 2147483648 -31 3221225472 -32"
+pub printed : reportOf (2 ∷ 2 ∷ 3 ∷ 0 ∷ 0 ∷ 0 ∷ 1 ∷ 1 ∷ 0 ∷ 0 ∷ 0 ∷ [])
+    ≡ 115 ∷ 116 ∷ 97 ∷ 116 ∷ 101 ∷ 115 ∷ 32 ∷ 50 ∷ 32 ∷ 98 ∷ 111 ∷ 117 ∷ 110 ∷ 100 ∷ 32 ∷ 56 ∷ 10
+    ∷ 48 ∷ 32 ∷ 50 ∷ 56 ∷ 54 ∷ 51 ∷ 51 ∷ 49 ∷ 49 ∷ 53 ∷ 51 ∷ 48 ∷ 32 ∷ 45 ∷ 51 ∷ 51
+    ∷ 32 ∷ 50 ∷ 49 ∷ 52 ∷ 55 ∷ 52 ∷ 56 ∷ 51 ∷ 54 ∷ 52 ∷ 56 ∷ 32 ∷ 45 ∷ 51 ∷ 51 ∷ 10
+    ∷ 49 ∷ 32 ∷ 50 ∷ 49 ∷ 52 ∷ 55 ∷ 52 ∷ 56 ∷ 51 ∷ 54 ∷ 52 ∷ 56 ∷ 32 ∷ 45 ∷ 51 ∷ 49
+    ∷ 32 ∷ 51 ∷ 50 ∷ 50 ∷ 49 ∷ 50 ∷ 50 ∷ 53 ∷ 52 ∷ 55 ∷ 50 ∷ 32 ∷ 45 ∷ 51 ∷ 50 ∷ 10 ∷ []
+unfolding reportOf solvedText headerLine stateLine stateLines signed decimal decimalDigits
+    solved weightsOf sharesOf entries plus times dividedBy oneNumber
+    elimination.weights elimination.shares elimination.total elimination.pivotOf elimination.quotientAt elimination.next
+    bitLengthUpTo bitLength isScaledAt cut roundedSum roundedProduct roundedQuotient converted isScaled sumOf productOf quotientOf rateOf
+    all boundCount checked startsSound columnsChecked entryBad rateIn answered allReached via sum
+    bitAt storedRate fileChecked rowChecked rateChecked
+printed = refl
 
--- 9: "Order byte 0 and 65: 1. Order byte 64 followed by nothing: 8."
-pub case-9 : (reportOf (0 ∷ []) ≡ refusedLine 1 0 0) × (reportOf (65 ∷ []) ≡ refusedLine 1 0 0) × (reportOf (64 ∷ []) ≡ refusedLine 8 0 0)
-unfolding reportOf readVerdict fileChecked rowChecked
-case-9 = (refl, refl, refl)
+-- ---- the closing theorem, of these bytes
+
+abbrev two : List ℕ
+two = 2 ∷ 2 ∷ 3 ∷ 0 ∷ 0 ∷ 0 ∷ 1 ∷ 1 ∷ 0 ∷ 0 ∷ 0 ∷ []
+
+two-fits : (i : ℕ) → getD two i 0 < 256
+unfolding all
+two-fits i = go (decLt i 11)
+  where
+    go : Dec (i < 11) → getD two i 0 < 256
+    go (yes l) = ltb-true _ _ (all-at 11 (λ j. ltb (getD two j 0) 256) refl i l)
+    go (no d) = rw (List·getD-eq-default two 0 {n = i} (omega arith)) (lit< tt)
+
+-- what is printed for them: numbers within 8 and 18 factors of exact weights that balance the chain
+pub printed-bounds : Printed two 8
+unfolding solved fileChecked rowChecked rateChecked bitAt storedRate checked startsSound columnsChecked entryBad rateIn answered allReached via sum boundCount
+printed-bounds = end-to-end two two-fits {e = 2} {K = 8} refl refl

@@ -1,25 +1,23 @@
--- The text for an accepted chain has room in 4343 bytes, whatever its weights and shares are. Assumes nothing.
+-- No text is longer than `longest`. Assumes nothing.
 use Prim.Native.Nat.{ℕ, zero, suc, _+_, _-_, _*_, _^_, _≤_, _<_}
-use mathlib.Core.Bool.{true}
-use mathlib.Core.List.{List}
 use mathlib.Core.Logic.{⊎-elim}
-use mathlib.Core.Path.{_≡_, ap}
+use mathlib.Core.Path.{ap}
 use native.Mathlib.Nat.{mul-le-mul}
 use native.Mathlib.Omega.{arith}
 use lib.IntN.{natAbs}
 use lib.ListN.{length, length-append}
-use Rattle.refusal.specs.Table.{accepts}
 use Rattle.markov.specs.Count.{boundCount}
+use Rattle.markov.proofs.CountLaws.{bound-count-formula}
 use Rattle.markov.proofs.FitMaps.{all-weights-fit}
 use Rattle.scaled.specs.declared.Scaled.{Scaled}
 use Rattle.scaled.proofs.Laws.{mantissa-below}
+use Rattle.chain.specs.Rows.{Rows}
+use Rattle.chain.specs.Sound.{Sound}
 use Rattle.kernel.specs.Numbers.{ops}
-use Rattle.solver.specs.Load.{entries}
-use Rattle.solver.specs.Solve.{weightsOf, sharesOf, solved, WellInside, InRange}
-use Rattle.solver.proofs.Acceptance.{accepted-solvable}
-use Rattle.decimal.specs.Lines.{headerLine, stateLine}
-use Rattle.decimal.proofs.LineLengths.{header-length, state-length}
-use Rattle.report.specs.Report.{stateTexts, solvedText}
+use Rattle.solver.specs.Solve.{entries, weightsOf, sharesOf, WellInside, AllInside}
+use Rattle.report.specs.Lines.{stateLine, stateLines, answerLines}
+use Rattle.report.specs.Report.{longest}
+use Rattle.report.proofs.LineLaws.{answer-size, header-length, state-length}
 
 -- ---- a number well inside the range has few digits
 
@@ -36,51 +34,36 @@ small x w = record {
 -- ---- the lines of the states
 
 module _ (weight share : ℕ → Scaled) (n : ℕ) (order : n ≤ 64) (w : (i : ℕ) → i < n → Small (weight i)) (s : (i : ℕ) → i < n → Small (share i)) where
-  texts-length : (count i : ℕ) → i + count ≤ n → length (stateTexts weight share count i) ≤ 39 * count
-  texts-length zero i l = omega arith
-  texts-length (suc count) i l =
+  lines-length : (count i : ℕ) → i + count ≤ n → length (stateLines weight share count i) ≤ 39 * count
+  unfolding stateLines
+  lines-length zero i l = omega arith
+  lines-length (suc count) i l =
       let a = w i (omega arith) in
       let b = s i (omega arith) in
-      let this = state-length i (weight i .m) (weight i .e) (share i .m) (share i .e) (omega arith) (a .m-small) (a .e-small) (b .m-small) (b .e-small) in
-      let rest = texts-length count (i + 1) (omega arith) in
-      omega (
-        arith,
-        this,
-        rest,
-        length-append (stateLine i (weight i .m) (weight i .e) (share i .m) (share i .e)) (stateTexts weight share count (i + 1)),
-      )
+      let this = state-length i (weight i) (share i) (omega arith) (a .m-small) (a .e-small) (b .m-small) (b .e-small) in
+      let rest = lines-length count (i + 1) (omega arith) in
+      omega (arith, this, rest, length-append (stateLine i (weight i) (share i)) (stateLines weight share count (i + 1)))
 
 -- ---- the bound count
 
-count-small : (n : ℕ) → n ≤ 64 → boundCount n ≤ 8576 * n
-unfolding boundCount
-count-small zero h = omega arith
-count-small (suc n) h =
-    let a : n ≤ 64 = omega arith in
-    let b : n + 3 ≤ 67 = omega arith in
-    let m : n * (n + 3) ≤ 64 * 67 = mul-le-mul a b in
-    omega (arith, count-small n (omega arith), m)
+count-small : (n : ℕ) → n ≤ 64 → boundCount n < 1000000
+count-small n h =
+    let square : n * n ≤ 64 * 64 = mul-le-mul h h in
+    let cube : n * n * n ≤ 64 * 64 * 64 = mul-le-mul square h in
+    omega (arith, bound-count-formula n, square, cube)
 
--- ---- the whole text
+-- ---- the whole text of an accepted chain
 
-pub solved-length : (n : ℕ) (starts columns rates : List ℕ) (K : ℕ) → InRange n starts columns rates → solved n starts columns rates true ≡ accepts K
-    → length (solvedText n starts columns rates) ≤ 4343
-unfolding solvedText weightsOf sharesOf
-solved-length n starts columns rates K inside q =
-    let (s, k) = accepted-solvable n starts columns rates true q in
-    let some : 0 < n = s .sound .order .low in
-    let order : n ≤ 64 = s .sound .order .high in
-    let most = count-small n order in
-    let first = header-length n K (omega arith) (omega arith) in
+pub answer-length : (c : Rows) → Sound c → AllInside c → length (answerLines (c .order) (boundCount (c .order)) (weightsOf c) (sharesOf c)) ≤ longest
+unfolding weightsOf sharesOf
+answer-length c s inside =
+    let n = c .order in
+    let some : 0 < n = s .order .low in
+    let order : n ≤ 64 = s .order .high in
+    let first = header-length n (boundCount n) (omega arith) (count-small n order) in
     let lines =
-    texts-length (weightsOf n starts columns rates) (sharesOf n starts columns rates) n order
-    (λ i l. small _ (all-weights-fit ops WellInside (n - 1) (entries starts columns rates) (inside .numbers .elimination) i (omega arith)))
-    (λ i l. small _ (inside .numbers .shares-fit i (omega arith)))
+    lines-length (weightsOf c) (sharesOf c) n order
+    (λ i l. small _ (all-weights-fit ops WellInside (n - 1) (entries c) (inside .numbers-met .elimination) i (omega arith)))
+    (λ i l. small _ (inside .numbers-met .shares-fit i (omega arith)))
     n 0 (omega arith) in
-    rw q
-    (omega (
-      arith,
-      first,
-      lines,
-      length-append (headerLine n K) (stateTexts (weightsOf n starts columns rates) (sharesOf n starts columns rates) n 0),
-    ))
+    omega (arith, first, lines, answer-size n (boundCount n) (weightsOf c) (sharesOf c))

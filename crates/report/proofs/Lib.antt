@@ -1,6 +1,9 @@
--- The text of a chain from the result slices, how long it can be, each way out of the calls, and the cases of document 01.
+-- The lines and their lengths, the text of a chain from the result slices, each way out of the calls, and the cases of document 01.
+pub mod LineLaws
 pub mod Texts
 pub mod Lengths
+pub mod Input
+pub mod EndToEnd
 pub mod Outcomes
+pub mod Determined
 pub mod Cases
-pub mod Printed

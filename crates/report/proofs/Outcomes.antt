@@ -1,138 +1,148 @@
 -- Each way out of the calls meets its contract. Assumes nothing.
-use Prim.Native.Nat.{ℕ, _+_, _^_, _≤_, _<_}
+use Prim.Native.Nat.{ℕ, _≤_, _<_}
 use mathlib.Core.Bool.{true}
 use mathlib.Core.List.{List, _++_}
-use mathlib.Core.Path.{_≡_, sym, ap, _∙_}
+use mathlib.Core.Path.{_≡_, refl, sym, ap, _∙_}
 use native.Mathlib.Omega.{arith}
 use borrow.Author.Tests.{le-leb, lt-leb}
-use lib.IntN.{ℤ}
-use lib.ListN.{length, take}
-use Rattle.refusal.specs.Table.{line, accepts, refusal, verdict}
-use Rattle.refusal.specs.declared.Line.{Line}
+use lib.ListN.{length, getD}
+use Rattle.refusal.specs.Table.{Verdict, side, line, accepts, refuses, refusal, verdict}
 use Rattle.refusal.specs.declared.Outcome.{Outcome}
 use Rattle.refusal.specs.declared.Outcome.the-variants as outcome
 use Rattle.refusal.specs.declared.Refusal.{Refusal}
+use Rattle.chain.specs.Rows.{Rows}
+use Rattle.chain.proofs.Reading.{accepted-sound}
+use Rattle.kernel.specs.Slices.{numberAt}
+use Rattle.kernel.proofs.Cells.{square}
 use Rattle.storage.specs.declared.Reading.{Reading}
 use Rattle.storage.specs.declared.Reading.the-variants as reading
-use Rattle.storage.specs.Reading.{told, readVerdict, Read}
-use Rattle.storage.proofs.Answers.{read-is}
-use Rattle.storage.proofs.RoundTrips.{ReadLeft, read-left}
-use Rattle.chain.proofs.Reading.{accepted-sound}
-use Rattle.kernel.proofs.Cells.{square}
-use Rattle.solver.specs.Solve.{weightsOf, sharesOf, roomFor, solved, Solved}
-use Rattle.solver.proofs.Room.{last-se, roomy}
-use Rattle.decimal.specs.Lines.{headerLine, refusedLine}
+use Rattle.storage.specs.Reading.{Stored, Buffers, chainIn, told, fileChecked, Read}
+use Rattle.storage.proofs.Passes.{file-few}
+use Rattle.storage.proofs.RoundTrips.{read-always}
+use Rattle.solver.specs.Lent.{Lent, Roomy}
+use Rattle.solver.specs.Solve.{weightsOf, sharesOf, solved, Solvable, Solved}
+use Rattle.solver.proofs.Room.{roomy-held}
+use Rattle.solver.proofs.Acceptance.{accepted-solvable, solvable-accepted}
 use Rattle.decimal.specs.Put.{Puts}
-use Rattle.decimal.specs.States.{Results, results, answerText, PutsStates}
-use Rattle.decimal.proofs.LineLengths.{refused-length}
-use Rattle.decimal.proofs.PutLaws.{put-left, put-place}
-use Rattle.decimal.proofs.StatesLaws.{answer-put}
-use Rattle.report.specs.Report.{refusedText, solvedText, reportOf, Fills, Reports}
-use Rattle.report.proofs.Lengths.{solved-length}
-use Rattle.report.proofs.Texts.{Hold, lines-are, begins}
+use Rattle.report.specs.Lines.{headerLine, answerLines, refusedLine}
+use Rattle.report.specs.Report.{longest, solvedText, textAfter, reportOf, Reports}
+use Rattle.report.proofs.EndToEnd.{end-to-end}
+use Rattle.report.proofs.Input.{input-suffices}
+use Rattle.report.proofs.Lengths.{answer-length}
+use Rattle.report.proofs.Texts.{lines-are, numbers-begin}
 
 -- another name for the text
-fills-as : {out s text after : List ℕ} {count : ℕ} → s ≡ text → Fills out s after count → Fills out text after count
-fills-as q f = record { left = rw (← q) (f .left); size = rw (← q) (f .size) }
-
--- ---- one line of a refusal
-
-pub refused-fills : {out after : List ℕ} {count : ℕ} (l t : Line) → l ≡ t → 4343 ≤ length out → l .number < 2 ^ 32 → l .first < 2 ^ 64 → l .second < 2 ^ 64
-    → Puts out 0 (refusedText l) after count → Fills out (refusedText t) after count × (count ≤ 4343)
-refused-fills {out} l t e room a b c p =
-    let most = refused-length (l .number) (l .first) (l .second) a b c in
-    let fit : 0 + length (refusedLine (l .number) (l .first) (l .second)) ≤ length out = omega (arith, most) in
-    rw (← e) (record { left = put-left p fit; size = omega (arith, put-place p fit) }, omega (arith, put-place p fit, most))
-
--- ---- the lines of an accepted chain
-
-pub answer-fills : {out after₁ after : List ℕ} {n K at count : ℕ} {r : Results} → n ≤ 64 → K < 2 ^ 64 → 4343 ≤ length out
-    → length (r .wm) ≡ 64 → length (r .we) ≡ 64 → length (r .sm) ≡ 64 → length (r .se) ≡ 64
-    → Puts out 0 (headerLine n K) after₁ at → PutsStates after₁ at n r after count → Fills out (answerText n K r) after count
-answer-fills {n = n} {K = K} h k room a b c d first rest =
-    let p = answer-put {at = 0} {n = n} {K = K} (omega arith) k (omega arith) (omega arith) (omega arith) (omega arith) (omega arith) first rest in
-    record { left = p .0; size = omega (arith, p .1) }
+puts-as : {out s text after : List ℕ} {count : ℕ} → s ≡ text → Puts out 0 s after count → Puts out 0 text after count
+puts-as q f = record { out-is = rw (← q) (f .out-is); next-is = rw (← q) (f .next-is) }
 
 -- ---- a chain that is solved
 
-pub room-enough : (n : ℕ) {m e wm we sm se : ℕ} → n ≤ 64 → m ≡ 4096 → e ≡ 4096 → wm ≡ 64 → we ≡ 64 → sm ≡ 64 → se ≡ 64 → roomFor n m e wm we sm se ≡ true
-room-enough n h a b c d f g =
-    rw (a, b, c, d, f, g) (sym (last-se n 4096 4096 64 64 64 64 (square n h) (square n h) h h h) ∙ le-leb n 64 h)
+pub room-enough : {n : ℕ} {l : Lent} → n ≤ 64 → length (l .work .m) ≡ 4096 → length (l .work .e) ≡ 4096 → length (l .weights .m) ≡ 64
+    → length (l .weights .e) ≡ 64 → length (l .shares .m) ≡ 64 → length (l .shares .e) ≡ 64 → Roomy n l
+room-enough {n} h a b c d e f =
+    let all = square n h in
+    record {
+      for-work = record { for-m = omega (arith, all); for-e = omega (arith, all) };
+      for-weights = record { for-m = omega arith; for-e = omega arith };
+      for-shares = record { for-m = omega arith; for-e = omega arith };
+    }
 
-module _ (n : ℕ) (starts columns rates : List ℕ) (m : List ℕ) (e : List ℤ) (wm : List ℕ) (we : List ℤ) (sm : List ℕ) (se : List ℤ) (r : Outcome)
-    (m′ : List ℕ) (e′ : List ℤ) (wm′ : List ℕ) (we′ : List ℤ) (sm′ : List ℕ) (se′ : List ℤ)
-    (s : Solved n starts columns rates m e wm we sm se r m′ e′ wm′ we′ sm′ se′)
-    (room : roomFor n (length m) (length e) (length wm) (length we) (length sm) (length se) ≡ true) where
-  verdict-is : verdict r ≡ solved n starts columns rates true
-  verdict-is = rw room at (s .answer)
-
-  refused-text : (f : Refusal) → r ≡ outcome.Refused f → refusedText (line f) ≡ solvedText n starts columns rates
-  unfolding solvedText
-  refused-text f q =
-      let v : solved n starts columns rates true ≡ refusal f = sym verdict-is ∙ ap verdict q in
-      rw v
-
-  answer-text : (K : ℕ) → r ≡ outcome.Done K → answerText n K (results wm′ we′ sm′ se′) ≡ solvedText n starts columns rates
-  unfolding solvedText
-  answer-text K q =
-      let a : verdict r ≡ accepts K = ap verdict q in
-      let v : solved n starts columns rates true ≡ accepts K = sym verdict-is ∙ a in
-      let places = roomy _ _ _ _ _ _ _ room in
-      let h : Hold n (weightsOf n starts columns rates) (sharesOf n starts columns rates) (results wm′ we′ sm′ se′) = record {
-        wm-is = begins _ n _ (verdict r) K wm wm′ (places .for-wm) a (s .weight-m);
-        we-is = begins _ n _ (verdict r) K we we′ (places .for-we) a (s .weight-e);
-        sm-is = begins _ n _ (verdict r) K sm sm′ (places .for-sm) a (s .share-m);
-        se-is = begins _ n _ (verdict r) K se se′ (places .for-se) a (s .share-e);
-      } in
-      rw v (ap (λ (l : List ℕ). headerLine n K ++ l) (lines-are h n 0 (omega arith)))
-
-  -- an accepted chain: what was put is its text, and that is short enough
-  pub put-done : (K : ℕ) → r ≡ outcome.Done K → {out after : List ℕ} {count : ℕ} → Fills out (answerText n K (results wm′ we′ sm′ se′)) after count
-      → Fills out (solvedText n starts columns rates) after count × (count ≤ 4343)
-  put-done K q f =
-      let t = fills-as (answer-text K q) f in
-      (t, omega (arith, t .size, solved-length n starts columns rates K (s .in-range K (ap verdict q)) (sym verdict-is ∙ ap verdict q)))
+module _ {c : Rows} {old new : Lent} {r : Outcome} (s : Solved c old r new) (room : Roomy (c .order) old) where
+  verdict-is : verdict r ≡ solved c true
+  verdict-is = rw (roomy-held (c .order) old room) at (s .answer)
 
   -- a refused one
-  pub put-stopped : (f : Refusal) → r ≡ outcome.Refused f → {out after : List ℕ} {count : ℕ} → Fills out (refusedText (line f)) after count × (count ≤ 4343)
-      → Fills out (solvedText n starts columns rates) after count × (count ≤ 4343)
-  put-stopped f q p = (fills-as (refused-text f q) (p .0), p .1)
+  pub put-stopped : {f : Refusal} → r ≡ outcome.Refused f → {out after : List ℕ} {count : ℕ} → Puts out 0 (refusedLine (line f)) after count × (count ≤ longest)
+      → Puts out 0 (solvedText c) after count × (count ≤ longest)
+  unfolding solvedText
+  put-stopped {f} q p =
+      let v : solved c true ≡ refusal f = sym verdict-is ∙ ap verdict q in
+      rw v p
+
+  module _ {K : ℕ} (q : r ≡ outcome.Done K) where
+    accepted : verdict r ≡ accepts K
+    accepted = ap verdict q
+
+    solvable : Solvable c old
+    solvable = accepted-solvable c old (sym (s .answer) ∙ accepted)
+
+    answer-text : answerLines (c .order) K (numberAt (new .weights)) (numberAt (new .shares)) ≡ solvedText c
+    unfolding solvedText
+    answer-text =
+        let v : solved c true ≡ accepts K = sym verdict-is ∙ accepted in
+        let weights = numbers-begin (c .order) (weightsOf c) (verdict r) (old .weights) (room .for-weights) accepted (s .weights) in
+        let shares = numbers-begin (c .order) (sharesOf c) (verdict r) (old .shares) (room .for-shares) accepted (s .shares) in
+        rw v (ap (λ (l : List ℕ). headerLine (c .order) K ++ l) (lines-are weights shares (c .order) 0 (omega arith)))
+
+    short : length (solvedText c) ≤ longest
+    unfolding solvedText
+    short =
+        let v = rw (roomy-held (c .order) old room) at (solvable-accepted c old solvable) in
+        rw v (answer-length c (solvable .sound) (s .in-range K accepted))
+
+    -- an accepted chain: its text has room, and is what was put
+    pub answer-room : length (answerLines (c .order) K (numberAt (new .weights)) (numberAt (new .shares))) ≤ longest
+    answer-room = rw answer-text short
+
+    pub put-done : {out after : List ℕ} {count : ℕ} → Puts out 0 (answerLines (c .order) K (numberAt (new .weights)) (numberAt (new .shares))) after count
+        → Puts out 0 (solvedText c) after count × (count ≤ longest)
+    put-done f = let t = puts-as answer-text f in (t, omega (arith, t .next-is, short))
 
 -- ---- the bytes
 
-pub reports : {bytes out text after : List ℕ} {count : ℕ} → 4343 ≤ length out → text ≡ reportOf bytes → Fills out text after count × (count ≤ 4343)
-    → Reports bytes out after count
-reports {bytes} {out} h q f =
-    let t = fills-as q (f .0) in
-    record { left = rw (le-leb 4343 (length out) h) (t .left); size = rw (le-leb 4343 (length out) h) (t .size); within = f .1 }
+module _ {bytes : List ℕ} (small : (i : ℕ) → getD bytes i 0 < 256) where
+  pub reports : {out text after : List ℕ} {count : ℕ} → longest ≤ length out → text ≡ reportOf bytes → Puts out 0 text after count × (count ≤ longest)
+      → Reports bytes out after count
+  reports {out} h q f =
+      let t = puts-as q (f .0) in
+      record {
+        out-is = rw (le-leb longest (length out) h) (t .out-is);
+        count-is = rw (le-leb longest (length out) h) (omega (arith, t .next-is));
+        within = f .1;
+        printed = end-to-end bytes small;
+        suffices = input-suffices bytes;
+      }
 
-pub reports-nothing : {bytes out : List ℕ} → length out < 4343 → Reports bytes out out 0
-reports-nothing {bytes} {out} h = record { left = rw (lt-leb 4343 (length out) h); size = rw (lt-leb 4343 (length out) h); within = omega arith }
+  pub reports-nothing : {out : List ℕ} → length out < longest → Reports bytes out out 0
+  reports-nothing {out} h = record {
+    out-is = rw (lt-leb longest (length out) h);
+    count-is = rw (lt-leb longest (length out) h);
+    within = omega arith;
+    printed = end-to-end bytes small;
+    suffices = input-suffices bytes;
+  }
 
-module _ (bytes starts columns rates : List ℕ) (r : Reading) (starts′ columns′ rates′ : List ℕ) (d : Read bytes starts columns rates r starts′ columns′ rates′)
-    (a : length starts ≡ 65) (b : length columns ≡ 4032) (c : length rates ≡ 4032) where
-  told-is : told r ≡ readVerdict bytes 65 4032 4032
-  told-is = rw (a, b, c) at (d .answer)
-
-  pub unread-text : (f : Refusal) → r ≡ reading.Refused f → refusedText (line f) ≡ reportOf bytes
+-- a reading into slices that have room for every chain
+module _ {bytes : List ℕ} {old new : Buffers} {r : Reading} (d : Read bytes old r new)
+    (a : length (old .starts) ≡ 65) (b : length (old .columns) ≡ 4032) (c : length (old .rates) ≡ 4032) where
+  pub unread-text : {f : Refusal} → r ≡ reading.Refused f → refusedLine (line f) ≡ reportOf bytes
   unfolding reportOf
-  unread-text f q =
-      let v : readVerdict bytes 65 4032 4032 ≡ refusal f = sym told-is ∙ ap told q in
-      rw v
+  unread-text {f} q = go (fileChecked bytes) refl
+    where
+      told-is : told r ≡ refusal f
+      told-is = ap told q
 
-  module _ (n entries : ℕ) (q : r ≡ reading.Chain n entries) where
-    accepted : readVerdict bytes 65 4032 4032 ≡ accepts (n, entries)
-    accepted = sym told-is ∙ ap told q
+      go : (v : Verdict ℕ) → fileChecked bytes ≡ v → refusedLine (line f) ≡ textAfter bytes v
+      go (refuses s l) p =
+          let e : _≡_ {A = Verdict (ℕ × ℕ)} (refuses s l) (refuses (side f) (line f)) =
+          read-always bytes (refuses s l) p ∙ sym (rw (a, b, c) at (d .answer)) ∙ told-is in
+          let e′ : l ≡ line f = cc in
+          rw e′
+      go (accepts k) p =
+          let e = read-always bytes (accepts k) p ∙ sym (rw (a, b, c) at (d .answer)) ∙ told-is in
+          let z : _≡_ {A = ℕ} 0 1 = cc in
+          absurd (omega arith)
 
-    chain-left : ReadLeft bytes n entries starts′ columns′ rates′
-    chain-left = read-left bytes starts columns rates r starts′ columns′ rates′ d n entries (ap told q)
+  module _ {n entries : ℕ} (q : r ≡ reading.Chain n entries) where
+    left : Stored (chainIn new n entries) entries bytes
+    left = d .stored n entries (ap told q)
 
     pub order-low : n ≤ 64
-    order-low = accepted-sound n _ _ _ (chain-left .passes) .order .high
+    order-low = accepted-sound (chainIn new n entries) (left .passes) .order .high
 
     pub entries-low : entries ≤ 4032
-    entries-low = read-is bytes 65 4032 4032 n entries accepted .room .for-columns
+    entries-low = file-few bytes entries (left .accepted)
 
-    pub read-text : solvedText n (take (n + 1) starts′) (take entries columns′) (take entries rates′) ≡ reportOf bytes
+    pub read-text : solvedText (chainIn new n entries) ≡ reportOf bytes
     unfolding reportOf
-    read-text = rw (accepted, chain-left .starts-are, chain-left .columns-are, chain-left .rates-are)
+    read-text = rw (left .accepted, left .chain)

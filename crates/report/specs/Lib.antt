@@ -1,2 +1,4 @@
--- What the contract cites: the text of the printing program for any bytes.
+-- What the contracts cite: the lines of the printing program, and its text for any bytes.
+pub mod Lines
 pub mod Report
+pub mod Inner

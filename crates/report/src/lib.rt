@@ -1,23 +1,26 @@
 // What the printing program prints for any bytes, put at the front of a lent buffer.
-//
-// The longest text has 55 + 67 × 64 bytes: the line "states n bound K" and the lines of 64 states. A shorter buffer is left as it is.
-ghost use Prim.Native.Nat.{_+_, _≤_, _<_};
-ghost use mathlib.Core.Path.{_≡_};
-ghost use lib.ListN.{length, take};
+ghost use Prim.Native.Nat.{_≤_, _<_};
+ghost use lib.ListN.{length};
 ghost use Rattle.refusal.specs.Table.{line};
-ghost use Rattle.decimal.specs.States.{results, answerText};
-ghost use Rattle.report.specs.Report.{refusedText, solvedText, Fills, Reports};
+ghost use Rattle.chain.specs.Rows.{inRows};
+ghost use Rattle.kernel.specs.Slices.{slices, numberAt};
+ghost use Rattle.storage.specs.Reading.{inBuffers, chainIn};
+ghost use Rattle.decimal.specs.Put.{Puts};
+ghost use Rattle.report.specs.Lines.{answerLines, refusedLine};
+ghost use Rattle.report.specs.Report.{longest, solvedText, Reports};
 use refusal::Outcome;
 use refusal::Refusal;
 use storage::Reading;
 
+mod lines;
+
 // "refused", its number, its two places.
 fn put_refusal(out: &mut [u8], refusal: Refusal) -> usize
-    requires { ⌜ 4343 ≤ length (now out) ⌝ }
-    ensures { λ r. ⌜ (Fills (now (out .entry)) (refusedText (line refusal)) (now (out .exit)) r) × (r ≤ 4343) ⌝ }
+    requires { ⌜ longest ≤ length (now out) ⌝ }
+    ensures { λ r. ⌜ (Puts (now (out .entry)) 0 (refusedLine (line refusal)) (now (out .exit)) r) × (r ≤ longest) ⌝ }
 {
     let line = refusal::listed(refusal);
-    decimal::put_refused(out, 0, line.number, line.first, line.second)
+    lines::put_refused(out, 0, line)
 }
 
 // "states n bound K", then for each state its number, weight m, weight e, share m, share e.
@@ -30,17 +33,18 @@ fn put_answer(
     sm: &[u32],
     se: &[i32],
 ) -> usize
-    requires { ⌜ (4343 ≤ length (now out)) × (order ≤ 64) × (length (now wm) ≡ 64) × (length (now we) ≡ 64) × (length (now sm) ≡ 64) × (length (now se) ≡ 64) ⌝ }
-    ensures { λ r. ⌜ Fills (now (out .entry)) (answerText order bound (results (now (wm .entry)) (now (we .entry)) (now (sm .entry)) (now (se .entry)))) (now (out .exit)) r ⌝ }
+    requires { ⌜ (length (answerLines order bound (numberAt (slices wm we)) (numberAt (slices sm se))) ≤ length (now out)) ×
+        (order ≤ length (now wm)) × (order ≤ length (now we)) × (order ≤ length (now sm)) × (order ≤ length (now se)) ⌝ }
+    ensures { λ r. ⌜ Puts (now (out .entry)) 0 (answerLines order bound (numberAt (slices (wm .entry) (we .entry))) (numberAt (slices (sm .entry) (se .entry)))) (now (out .exit)) r ⌝ }
 {
-    let at = decimal::put_header(out, 0, order, bound as u64);
-    decimal::put_states(out, at, order, wm, we, sm, se)
+    let at = lines::put_header(out, 0, order, bound);
+    lines::put_states(out, at, order, wm, we, sm, se)
 }
 
 // The text for a chain: its weights and shares, or the refusal of solving.
 fn put_solved(out: &mut [u8], order: usize, starts: &[u32], columns: &[u32], rates: &[u32]) -> usize
-    requires { ⌜ (4343 ≤ length (now out)) × (order ≤ 64) ⌝ }
-    ensures { λ r. ⌜ (Fills (now (out .entry)) (solvedText order (now (starts .entry)) (now (columns .entry)) (now (rates .entry))) (now (out .exit)) r) × (r ≤ 4343) ⌝ }
+    requires { ⌜ (longest ≤ length (now out)) × (order ≤ 64) ⌝ }
+    ensures { λ r. ⌜ (Puts (now (out .entry)) 0 (solvedText (inRows order (starts .entry) (columns .entry) (rates .entry))) (now (out .exit)) r) × (r ≤ longest) ⌝ }
 {
     let mut m = [0u32; 4096];
     let mut e = [0i32; 4096];
@@ -74,8 +78,8 @@ fn put_chain(
     columns: &[u32],
     rates: &[u32],
 ) -> usize
-    requires { ⌜ (4343 ≤ length (now out)) × (order ≤ 64) × (order < length (now starts)) × (entries ≤ length (now columns)) × (entries ≤ length (now rates)) ⌝ }
-    ensures { λ r. ⌜ (Fills (now (out .entry)) (solvedText order (take (order + 1) (now (starts .entry))) (take entries (now (columns .entry))) (take entries (now (rates .entry)))) (now (out .exit)) r) × (r ≤ 4343) ⌝ }
+    requires { ⌜ (longest ≤ length (now out)) × (order ≤ 64) × (order < length (now starts)) × (entries ≤ length (now columns)) × (entries ≤ length (now rates)) ⌝ }
+    ensures { λ r. ⌜ (Puts (now (out .entry)) 0 (solvedText (chainIn (inBuffers (starts .entry) (columns .entry) (rates .entry)) order entries)) (now (out .exit)) r) × (r ≤ longest) ⌝ }
 {
     put_solved(
         out,
@@ -86,12 +90,12 @@ fn put_chain(
     )
 }
 
-// Puts the text for these bytes at the front of `out`: the answer is the number of its bytes. Where `out` has fewer than 4343 bytes,
+// Puts the text for these bytes at the front of `out`: the answer is the number of its bytes. Where `out` has fewer than 2519 bytes,
 // nothing is changed and the answer is 0.
 pub fn report(bytes: &[u8], out: &mut [u8]) -> usize
     ensures { λ r. ⌜ Reports (now (bytes .entry)) (now (out .entry)) (now (out .exit)) r ⌝ }
 {
-    if out.len() < 4343 {
+    if out.len() < 2519 {
         return 0;
     }
     let mut starts = [0u32; 65];

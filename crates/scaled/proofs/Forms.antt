@@ -1,7 +1,7 @@
 -- What the test of an operand tells: Zero, or m of h + 1 digits and e in range. Assumes nothing.
-use mathlib.Core.Path.{_≡_, refl, sym, _∙_}
-use mathlib.Core.Logic.{⊎-elim}
-use mathlib.Core.Bool.{Bool, true, false, not, false≢true}
+use mathlib.Core.Path.{_≡_, refl, sym, ap₂, _∙_}
+use mathlib.Core.Logic.{_≢_, ⊎-elim}
+use mathlib.Core.Bool.{Bool, true, false, cond, false≢true}
 use Prim.Native.Nat.{ℕ, zero, suc, _*_, _^_, _≤_, _<_}
 use native.Mathlib.Nat.{eq-zero-or-pos}
 use native.Mathlib.Omega.{arith}
@@ -11,21 +11,21 @@ use lib.Pow.{pow-pos}
 use lib.Signed.{mag}
 use mir.Syntax.{w32}
 use mir.Val.{toZ, ofZ}
-use borrow.Author.Tests.{lt-ltb, le-ltb, eq-eqb, ne-eqb, not-true, not-false}
+use borrow.Author.Tests.{lt-ltb, le-ltb, eq-eqb, ne-eqb}
 use Rattle.scaled.specs.declared.Scaled.{Scaled}
 use Rattle.scaled.specs.declared.Rounded.{Rounded}
 use Rattle.scaled.specs.declared.Rounded.the-variants.{Number, None}
-use Rattle.scaled.specs.Scaled.{zeroNumber, inRange, isNought, isScaledAt, isNumber, ofScaled, ranged}
+use Rattle.scaled.specs.Scaled.{zeroNumber, exponentInRange, isNought, isScaledAt, isNumber, ofScaled, ranged}
 use Rattle.scaled.proofs.Signed32.{order, Held, held, stored}
 
 pub false-true {ℓ} : {X : Type ℓ} → false ≡ true → X
 false-true e = absurd (false≢true e)
 
-pub range-mag : (e : ℤ) → inRange e ≡ true → mag e < 16384
+pub range-mag : (e : ℤ) → exponentInRange e ≡ true → mag e < 16384
 range-mag (pos n) h = ⊎-elim (λ l. omega arith) (λ l. false-true (rw (lt-ltb 16383 n l) at h)) (order n 16383)
 range-mag (negsuc n) h = ⊎-elim (λ l. omega arith) (λ l. false-true (rw (lt-ltb 16383 n l) at h)) (order n 16383)
 
-pub mag-range : (e : ℤ) → mag e < 16384 → inRange e ≡ true
+pub mag-range : (e : ℤ) → mag e < 16384 → exponentInRange e ≡ true
 mag-range (pos n) l = rw (le-ltb 16383 n (omega arith))
 mag-range (negsuc n) l = rw (le-ltb 16383 n (omega arith))
 
@@ -41,7 +41,7 @@ zero-only (negsuc n) h = false-true h
 -- the two kinds of scaled numbers
 pub data Form (h : ℕ) (a : Scaled) : Type 0 where
   nought : a .m ≡ 0 → a .e ≡ pos 0 → Form h a
-  more : 2 ^ h ≤ a .m → a .m < 2 * 2 ^ h → inRange (a .e) ≡ true → Form h a
+  more : 2 ^ h ≤ a .m → a .m < 2 * 2 ^ h → exponentInRange (a .e) ≡ true → Form h a
 
 module _ (h : ℕ) (a : Scaled) where
   pub form : isScaledAt h a ≡ true → Form h a
@@ -66,7 +66,7 @@ module _ (h : ℕ) (a : Scaled) where
           small : a .m < 2 ^ h → Form h a
           small l = false-true (rw (ne, lt-ltb (a .m) (2 ^ h) l) at s)
 
-  pub form-scaled : 2 ^ h ≤ a .m → a .m < 2 * 2 ^ h → inRange (a .e) ≡ true → isScaledAt h a ≡ true
+  pub form-scaled : 2 ^ h ≤ a .m → a .m < 2 * 2 ^ h → exponentInRange (a .e) ≡ true → isScaledAt h a ≡ true
   unfolding isScaledAt
   form-scaled l u g = simp (ne-eqb (a .m) 0 (λ z. omega (arith, l, pow-pos h)), le-ltb (a .m) (2 ^ h) l, lt-ltb (a .m) (2 * 2 ^ h) u, g)
 
@@ -87,35 +87,40 @@ module _ {h : ℕ} {a : Scaled} where
   m-below (nought z e) = omega (arith, pow-pos h)
   m-below (more l u r) = u
 
+-- the m of a scaled number that is not Zero
+pub some-m : (h : ℕ) (a : Scaled) → isScaledAt h a ≡ true → a ≢ zeroNumber → 0 < a .m
+some-m h a s n = go (form h a s)
+  where
+    go : Form h a → 0 < a .m
+    go (nought z e) = absurd (n (ap₂ (λ (m : ℕ) (e : ℤ). record { m = m; e = e }) z e))
+    go (more l u r) = omega (arith, l, pow-pos h)
+
 -- a scaled number is in range
 pub own-number : (h : ℕ) (a : Scaled) → isScaledAt h a ≡ true → ranged (a .m) (a .e) ≡ Number a
 own-number h a s = simp (mag-range (a .e) (e-small (form h a s)))
 
 -- where there is a number, its exponent is in range
-pub known-range : (m : ℕ) (e : ℤ) → isNumber (ranged m e) ≡ true → inRange e ≡ true
-known-range m e = by (inRange e) refl
+pub known-range : (m : ℕ) (e : ℤ) → isNumber (ranged m e) ≡ true → exponentInRange e ≡ true
+known-range m e = by (exponentInRange e) refl
   where
-    by : (r : Bool) → inRange e ≡ r → isNumber (ranged m e) ≡ true → inRange e ≡ true
+    by : (r : Bool) → exponentInRange e ≡ r → isNumber (ranged m e) ≡ true → exponentInRange e ≡ true
     by true g h = g
     by false g h = false-true (simp g at h)
 
 -- an operand that is not scaled, or two that are
 module _ (h : ℕ) (a b : Scaled) (x : Rounded) where
-  pub first-refused : isScaledAt h a ≡ false → None ≡ ofScaled h a b x
+  pub first-refused : isScaledAt h a ≡ false → ofScaled h a b x ≡ None
   first-refused s = simp s
 
-  pub second-refused : isScaledAt h a ≡ true → isScaledAt h b ≡ false → None ≡ ofScaled h a b x
-  second-refused s t = simp (s, t)
+  pub second-refused : isScaledAt h b ≡ false → ofScaled h a b x ≡ None
+  second-refused t = go (isScaledAt h a)
+    where
+      go : (s : Bool) → cond s (cond (isScaledAt h b) x None) None ≡ None
+      go true = rw t
+      go false = refl
 
   pub both-scaled : isScaledAt h a ≡ true → isScaledAt h b ≡ true → x ≡ ofScaled h a b x
   both-scaled s t = simp (s, t)
-
--- a test that was passed or failed, of which the branch says `not`
-pub passed : {r s : Bool} → r ≡ s → not r ≡ false → s ≡ true
-passed {r} e n = sym e ∙ not-false r n
-
-pub failed : {r s : Bool} → r ≡ s → not r ≡ true → s ≡ false
-failed {r} e n = sym e ∙ not-true r n
 
 -- the exponent of a tested operand, as the machine holds it
 pub exponent-held : (h : ℕ) (a : Scaled) → isScaledAt h a ≡ true → Held (toZ w32 (ofZ w32 (a .e))) (a .e) 16384

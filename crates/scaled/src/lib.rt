@@ -3,10 +3,14 @@
 // the public form that tests its operands and the range.
 ghost use mathlib.Core.Path.{_≡_};
 ghost use mathlib.Core.Bool.{true};
+ghost use mathlib.Core.Logic.{_≢_};
 ghost use Prim.Native.Nat.{_+_, _*_, _/_, _^_, _≤_, _<_};
 ghost use lib.IntN.{pos, _+ℤ_, _-ℤ_};
 ghost use lib.Signed.{mag};
-ghost use Rattle.scaled.specs.Scaled.{topBit, inRange, ranged, whole, cut, isScaled, isNumber, sumOf, productOf, quotientOf, sumWith, rateOf};
+ghost use Rattle.scaled.specs.Scaled.{zeroNumber, isZero, topBit, exponentInRange, rangedNumber, dyadic, cut, isScaled, isNumber, sumOf, productOf, quotientOf, sumWith, rateOf};
+ghost use Rattle.scaled.specs.Scaled.{exactSum, exactProduct, exactQuotient};
+ghost use Rattle.scaled.specs.Largest.{RoundedDown};
+ghost use Rattle.scaled.specs.Units.{oneNumber};
 
 // m * 2^e: Zero is (0, 0); any other scaled number has m from 2^31 on and e from -16384 to 16383.
 pub struct Scaled {
@@ -20,8 +24,32 @@ pub enum Rounded {
     None,
 }
 
+// Zero.
+pub fn zero() -> Scaled
+    ensures { λ r. ⌜ r ≡ zeroNumber ⌝ }
+{
+    Scaled { m: 0, e: 0 }
+}
+
+// The number 1.
+pub fn one() -> Scaled
+    ensures { λ r. ⌜ r ≡ oneNumber ⌝ }
+{
+    Scaled {
+        m: 0x8000_0000,
+        e: -31,
+    }
+}
+
+// Whether a is Zero, for a scaled number a.
+pub fn is_zero(a: Scaled) -> bool
+    ensures { λ r. ⌜ r ≡ isZero a ⌝ }
+{
+    a.m == 0
+}
+
 fn in_range(e: i32) -> bool
-    ensures { λ r. ⌜ r ≡ inRange e ⌝ }
+    ensures { λ r. ⌜ r ≡ exponentInRange e ⌝ }
 {
     if e < -16384 {
         return false;
@@ -34,7 +62,7 @@ fn in_range(e: i32) -> bool
 
 // x, or none where its e is outside the range.
 fn ranged(x: Scaled) -> Rounded
-    ensures { λ r. ⌜ r ≡ ranged (x .m) (x .e) ⌝ }
+    ensures { λ r. ⌜ r ≡ rangedNumber x ⌝ }
 {
     if in_range(x.e) {
         return Rounded::Number(x);
@@ -87,7 +115,7 @@ fn carried(s: u64, e: i32) -> Scaled
 // m1 * 2^e + m2 * 2^(e - d), cut to the leading 32 bits.
 fn aligned_sum(m1: u32, e: i32, m2: u32, d: u32) -> Scaled
     requires { ⌜ (2147483648 ≤ m1) × (mag e < 16384) ⌝ }
-    ensures { λ r. ⌜ ranged (r .m) (r .e) ≡ cut topBit (whole (m1 * 2 ^ d + m2) (e -ℤ pos d)) ⌝ }
+    ensures { λ r. ⌜ rangedNumber r ≡ cut topBit (dyadic (m1 * 2 ^ d + m2) (e -ℤ pos d)) ⌝ }
 {
     carried(m1 as u64 + lowered(m2 as u64, d), e)
 }
@@ -95,7 +123,7 @@ fn aligned_sum(m1: u32, e: i32, m2: u32, d: u32) -> Scaled
 // The sum of two scaled numbers: the exact sum is cut, never an operand. Its e may be of any size.
 pub fn wide_sum(a: Scaled, b: Scaled) -> Scaled
     requires { ⌜ (isScaled a ≡ true) × (isScaled b ≡ true) ⌝ }
-    ensures { λ r. ⌜ ranged (r .m) (r .e) ≡ sumOf a b ⌝ }
+    ensures { λ r. ⌜ rangedNumber r ≡ sumOf a b ⌝ }
 {
     if a.m == 0 {
         return b;
@@ -114,7 +142,7 @@ pub fn wide_sum(a: Scaled, b: Scaled) -> Scaled
 // The product of two scaled numbers, cut to the leading 32 bits. Its e may be of any size.
 pub fn wide_product(a: Scaled, b: Scaled) -> Scaled
     requires { ⌜ (isScaled a ≡ true) × (isScaled b ≡ true) ⌝ }
-    ensures { λ r. ⌜ ranged (r .m) (r .e) ≡ productOf a b ⌝ }
+    ensures { λ r. ⌜ rangedNumber r ≡ productOf a b ⌝ }
 {
     let t = a.m as u64 * b.m as u64;
     if t == 0 {
@@ -135,8 +163,8 @@ pub fn wide_product(a: Scaled, b: Scaled) -> Scaled
 
 // The quotient of two scaled numbers, the second not Zero, cut to the leading 32 bits. Its e may be of any size.
 pub fn wide_quotient(a: Scaled, b: Scaled) -> Scaled
-    requires { ⌜ (isScaled a ≡ true) × (isScaled b ≡ true) × (0 < b .m) ⌝ }
-    ensures { λ r. ⌜ ranged (r .m) (r .e) ≡ quotientOf a b ⌝ }
+    requires { ⌜ (isScaled a ≡ true) × (isScaled b ≡ true) × (b ≢ zeroNumber) ⌝ }
+    ensures { λ r. ⌜ rangedNumber r ≡ quotientOf a b ⌝ }
 {
     if a.m == 0 {
         return Scaled { m: 0, e: 0 };
@@ -155,6 +183,7 @@ pub fn wide_quotient(a: Scaled, b: Scaled) -> Scaled
 // The sum, or none.
 pub fn sum(a: Scaled, b: Scaled) -> Rounded
     ensures { λ r. ⌜ r ≡ sumOf a b ⌝ }
+    ensures { λ r. ⌜ RoundedDown topBit a b (exactSum a b) r ⌝ }
 {
     if !is_scaled(a) {
         return Rounded::None;
@@ -168,6 +197,7 @@ pub fn sum(a: Scaled, b: Scaled) -> Rounded
 // The product, or none.
 pub fn product(a: Scaled, b: Scaled) -> Rounded
     ensures { λ r. ⌜ r ≡ productOf a b ⌝ }
+    ensures { λ r. ⌜ RoundedDown topBit a b (exactProduct a b) r ⌝ }
 {
     if !is_scaled(a) {
         return Rounded::None;
@@ -181,6 +211,7 @@ pub fn product(a: Scaled, b: Scaled) -> Rounded
 // The quotient, or none: by Zero there is none.
 pub fn quotient(a: Scaled, b: Scaled) -> Rounded
     ensures { λ r. ⌜ r ≡ quotientOf a b ⌝ }
+    ensures { λ r. ⌜ RoundedDown topBit a b (exactQuotient a b) r ⌝ }
 {
     if !is_scaled(a) {
         return Rounded::None;
@@ -198,7 +229,7 @@ pub fn quotient(a: Scaled, b: Scaled) -> Rounded
 // product's exponent is not above that of x: then both cuts are one shift of the exact product.
 pub fn add_product(x: Scaled, a: Scaled, t: Scaled) -> Scaled
     requires { ⌜ (isScaled x ≡ true) × (isScaled a ≡ true) × (isScaled t ≡ true) × (isNumber (productOf a t) ≡ true) ⌝ }
-    ensures { λ r. ⌜ ranged (r .m) (r .e) ≡ sumWith x (productOf a t) ⌝ }
+    ensures { λ r. ⌜ rangedNumber r ≡ sumWith x (productOf a t) ⌝ }
 {
     let e = a.e + t.e;
     let d = x.e - e;

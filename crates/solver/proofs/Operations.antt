@@ -6,13 +6,12 @@ use native.Mathlib.Nat.{mul-le-mul-left, mul-le-mul-right, le-of-mul-le-mul-righ
 use native.Mathlib.Omega.{arith}
 use lib.Dec.{lit≤}
 use lib.Pow.{pow-pos}
-use Rattle.factors.specs.Near.{Near, Mild}
-use Rattle.factors.proofs.MildLaws.{mild}
+use Rattle.basics.specs.Near.{Near, Mild}
 use Rattle.markov.specs.Count.{boundCount}
 use Rattle.markov.specs.Promises.{Promises}
 use Rattle.markov.proofs.Positive.{pos-right}
 use Rattle.range.specs.Bounds.{mostStates, margin}
-use Rattle.range.specs.Range.{Roomy}
+use Rattle.range.specs.Range.{Ample}
 use Rattle.scaled.specs.declared.Scaled.{Scaled}
 use Rattle.scaled.specs.declared.Rounded.{Rounded}
 use Rattle.scaled.specs.declared.Rounded.the-variants.{Number, None}
@@ -59,10 +58,10 @@ promises = record {
   divided = λ x y fx fy f p. divided-near x y f;
 }
 
--- K(64) factors of 2^31 / (2^31 - 1) are at most 2
+-- K(64) factors are at most 2
 pub factor-mild : Mild factor (boundCount mostStates)
-unfolding factor mostStates boundCount
-factor-mild = mild {F = factor} 1 refl (lit≤ tt)
+unfolding mostStates boundCount
+factor-mild = laws.factor-mild (boundCount mostStates) (lit≤ tt)
 
 -- ---- the ends of the range are farther from 1 than the margin
 
@@ -125,9 +124,9 @@ div-fits x y fx fy pos low top = go (quotientOf x y) refl
     go (Number r) e = laws.quotient-scaled x y r e
     go None e = let n = laws.quotient-none x y fx fy pos e in absurd (out (n .0) (n .1))
 
-pub roomy : Roomy ops one val Fit (2 ^ margin)
+pub ample : Ample ops one val Fit (2 ^ margin)
 unfolding room
-roomy = record {
+ample = record {
   nought-fits = laws.zero-scaled;
   unit-fits = laws.one-scaled;
   add-fits = add-fits;

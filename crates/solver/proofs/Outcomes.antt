@@ -1,168 +1,146 @@
--- The contract of `solve` at each of its ways out. Assumes nothing.
-use mathlib.Core.Bool.{Bool, true, false, not}
+-- The contract of `solve` at its two ways out. Assumes nothing.
 use mathlib.Core.List.{List, _++_}
-use mathlib.Core.Path.{_≡_, sym, ap, ap₂, _∙_}
+use mathlib.Core.Path.{_≡_, sym, ap, _∙_}
 use Prim.Native.Nat.{ℕ, _+_, _*_, _≤_, _<_}
 use native.Mathlib.Omega.{arith}
-use lib.IntN.{ℤ, pos}
+use lib.IntN.{pos}
 use lib.ListN.{length, getD, take, drop, List·getD-append}
 use lib.Seq.{length-take-le, sets-eq}
-use borrow.Author.Tests.{not-true, not-false}
-use Rattle.refusal.specs.declared.Line.{Line}
 use Rattle.refusal.specs.declared.Outcome.{Outcome}
 use Rattle.refusal.specs.declared.Outcome.the-variants.{Done, Refused}
 use Rattle.refusal.specs.declared.Refusal.{Refusal}
-use Rattle.refusal.specs.Table.{Verdict, Side, accepts, refuses, of-chain, numbered, refusal, verdict, after}
-use Rattle.markov.specs.Chain.{Rates, HasAnswer}
+use Rattle.refusal.specs.Table.{Verdict, accepts, verdict, after}
+use Rattle.markov.specs.Chain.{Rates}
 use Rattle.markov.specs.Count.{boundCount}
-use Rattle.chain.specs.Rules.{checked}
-use Rattle.chain.specs.Sound.{Sound}
-use Rattle.chain.specs.Meaning.{rateIn}
-use Rattle.chain.proofs.Reading.{accepted-sound}
-use Rattle.reach.specs.Answer.{answered}
-use Rattle.reach.proofs.AnswerLaws.{accepted-answer}
+use Rattle.chain.specs.Rows.{Rows}
 use Rattle.scaled.specs.declared.Scaled.{Scaled}
-use Rattle.kernel.specs.Numbers.{numberAt}
+use Rattle.kernel.specs.Slices.{Slices, pair, numberAt}
 use Rattle.kernel.specs.Kernel.{Sized}
-use Rattle.solver.specs.Solve.{weightsOf, sharesOf, roomFor, solved, table, Accurate, Weighable, Ran, Solved}
+use Rattle.solver.specs.Lent.{Lent, enoughIn, Places}
+use Rattle.solver.specs.Solve.{weightsOf, sharesOf, solved, numbers, zeros, afterIn, Solvable, Accurate, Solved}
+use Rattle.solver.specs.Inner.{Weighable, Ran}
 use Rattle.solver.proofs.Demands as demands
 use Rattle.solver.proofs.Ranges as ranges
-use Rattle.solver.proofs.Acceptance.{solved-says}
-use Rattle.solver.proofs.Fills.{length-replicate}
-use Rattle.solver.proofs.Room.{Roomy, roomy}
-use Rattle.solver.proofs.Tables.{table-length, table-at}
+use Rattle.solver.proofs.Acceptance.{solved-says, solvable-accepted, accepted-solvable}
+use Rattle.basics.proofs.FillLaws.{length-replicate, table-length, table-at}
+use Rattle.solver.proofs.Tables.{both-equal}
 
--- what a call gave, and what a test said
-pub told : {r : Outcome} {k : ℕ} {v : Verdict ℕ} → r ≡ Done k → verdict r ≡ v → v ≡ accepts k
-told t q = sym q ∙ ap verdict t
+-- ---- slices of which the first k places were lent and came back as s
 
-pub held : {b c : Bool} → b ≡ c → not b ≡ false → c ≡ true
-held {b} q t = sym q ∙ not-false b t
+abbrev pub joined : ℕ → Slices → Slices → Slices
+joined k s old = pair (s .m ++ drop k (old .m)) (s .e ++ drop k (old .e))
 
-pub failed : {b c : Bool} → b ≡ c → not b ≡ true → c ≡ false
-failed {b} q t = sym q ∙ not-true b t
+abbrev pub back : ℕ → Lent → Lent → Lent
+back n new old = record {
+  work = joined (n * n) (new .work) (old .work);
+  weights = joined n (new .weights) (old .weights);
+  shares = joined n (new .shares) (old .shares);
+}
 
--- ---- slices of which the needed places were lent and came back as p
-
-after-done : {A : Type 0} {v : Verdict ℕ} {j : ℕ} (p new old : List A) (k : ℕ) → v ≡ accepts j → length new ≡ k → k ≤ length old → p ≡ new → p ++ drop k old ≡ after v old new
-after-done p new old k q l g h =
+after-done : {A : Type 0} {v : Verdict ℕ} {j : ℕ} (new old : List A) (k : ℕ) → v ≡ accepts j → length new ≡ k → k ≤ length old
+    → new ++ drop k old ≡ after v old new
+after-done new old k q l g =
     let e : k ≡ 0 + length new = omega arith in
-    rw (q, h) (ap (λ (i : ℕ). new ++ drop i old) e ∙ sym (sets-eq new old 0 (omega arith)))
+    rw q (ap (λ (i : ℕ). new ++ drop i old) e ∙ sym (sets-eq new old 0 (omega arith)))
 
--- the numbers in the front of two slices
-front-number : (n : ℕ) (f : ℕ → Scaled) (m : List ℕ) (e : List ℤ) (i : ℕ) → i < n
-    → numberAt (table n (λ i. f i .m) ++ m) (table n (λ i. f i .e) ++ e) i ≡ f i
+-- the first k places are as they came back, the others as they were
+back-done : {v : Verdict ℕ} {k j : ℕ} {s old new : Slices} → v ≡ accepts j → Places k old → Sized k new → s ≡ new → joined k s old ≡ afterIn v old new
+back-done {k = k} {old = old} {new = new} q p z h =
+    rw h
+    (both-equal (after-done (new .m) (old .m) k q (z .size-m) (p .for-m)) (after-done (new .e) (old .e) k q (z .size-e) (p .for-e)))
+
+zeros-sized : (k : ℕ) → Sized k (zeros k)
+zeros-sized k = record { size-m = length-replicate 0 k; size-e = length-replicate (pos 0) k }
+
+numbers-sized : (n : ℕ) (f : ℕ → Scaled) → Sized n (numbers n f)
+numbers-sized n f = record { size-m = table-length 0 n _; size-e = table-length (pos 0) n _ }
+
+-- the numbers in front
+front-number : (n : ℕ) (f : ℕ → Scaled) (old : Slices) {s : Slices} → s ≡ numbers n f → (i : ℕ) → i < n → numberAt (joined n s old) i ≡ f i
 unfolding numberAt
-front-number n f m e i l =
-    rw (
-      List·getD-append (table n (λ i. f i .m)) m 0 i (omega (arith, table-length 0 n (λ i. f i .m))),
-      List·getD-append (table n (λ i. f i .e)) e (pos 0) i (omega (arith, table-length (pos 0) n (λ i. f i .e))),
-      table-at 0 n (λ i. f i .m) i l,
-      table-at (pos 0) n (λ i. f i .e) i l,
-    )
+front-number n f old h i l =
+    let z = numbers-sized n f in
+    let in-m = List·getD-append (numbers n f .m) (drop n (old .m)) 0 i (omega (arith, z .size-m)) in
+    let in-e = List·getD-append (numbers n f .e) (drop n (old .e)) (pos 0) i (omega (arith, z .size-e)) in
+    rw (h, in-m, in-e, table-at 0 n (λ i. f i .m) i l, table-at (pos 0) n (λ i. f i .e) i l)
 
 accurate-cong : {n : ℕ} {rate : Rates} {count : ℕ} {w w′ s s′ : ℕ → Scaled} → ((i : ℕ) → i < n → w′ i ≡ w i) → ((i : ℕ) → i < n → s′ i ≡ s i)
     → Accurate n rate count w s → Accurate n rate count w′ s′
-accurate-cong p q h = record { weights = λ i l. rw (p i l) (h .weights i l); shares = λ i l. rw (q i l) (h .shares i l) }
+accurate-cong p q h = record {
+  weights-scaled = λ i l. rw (p i l) (h .weights-scaled i l);
+  shares-scaled = λ i l. rw (q i l) (h .shares-scaled i l);
+  weights = λ i l. rw (p i l) (h .weights i l);
+  shares = λ i l. rw (q i l) (h .shares i l);
+}
 
-module _ (n : ℕ) (starts columns rates : List ℕ) (m : List ℕ) (e : List ℤ) (wm : List ℕ) (we : List ℤ) (sm : List ℕ) (se : List ℤ) where
-  abbrev pub room : Bool
-  room = roomFor n (length m) (length e) (length wm) (length we) (length sm) (length se)
+-- ---- the ways out
 
+module _ {c : Rows} {old : Lent} {r : Outcome} (q : verdict r ≡ solved c (enoughIn (c .order) old)) where
   -- after a refusal nothing has changed
-  refused : (r : Outcome) {side : Side} {line : Line} → verdict r ≡ solved n starts columns rates room → verdict r ≡ refuses side line
-      → Solved n starts columns rates m e wm we sm se r m e wm we sm se
-  refused r q p = record {
+  pub solve-refused : {f : Refusal} → r ≡ Refused f → Solved c old r old
+  solve-refused {f} t = record {
     answer = q;
-    says = rw q (solved-says n starts columns rates room);
-    work-m = rw p;
-    work-e = rw p;
-    weight-m = rw p;
-    weight-e = rw p;
-    share-m = rw p;
-    share-e = rw p;
+    says = rw q (solved-says c old);
+    acceptance = (λ h. q ∙ solvable-accepted c old h, λ a. accepted-solvable c old (sym q ∙ a));
+    work = rw t;
+    weights = rw t;
+    shares = rw t;
     in-range = λ k a. absurd (never k a);
-    balancing = λ k a. absurd (never k a);
+    balancing = λ s h. demands.balancing (c .order) _ (s .order .low) h;
     accurate = λ k a. absurd (never k a);
   }
     where
       never : (k : ℕ) → verdict r ≡ accepts k → ⊥
-      never k a = let z : _≡_ {A = ℕ} 0 1 = cc in omega arith
+      never k a = let u : verdict r ≡ verdict (Refused f) = ap verdict t in let z : _≡_ {A = ℕ} 0 1 = cc in omega arith
 
-  -- 1 to 4
-  pub check-refused : (r : Outcome) (f : Refusal) → verdict r ≡ checked n starts columns rates → r ≡ Refused f
-      → Solved n starts columns rates m e wm we sm se r m e wm we sm se
-  unfolding solved
-  check-refused r f q t =
-      let c : checked n starts columns rates ≡ refusal f = sym q ∙ ap verdict t in
-      refused r (q ∙ c ∙ sym (rw c)) (ap verdict t)
+  pub solve-done : {k : ℕ} {new : Lent} → r ≡ Done k → ((p : ℕ) → getD (c .rates) p 0 < 4294967296) → Ran c new → Solved c old r (back (c .order) new old)
+  solve-done {k} {new} t words ran = record {
+    answer = q;
+    says = rw q (solved-says c old);
+    acceptance = (λ h. q ∙ solvable-accepted c old h, λ a. accepted-solvable c old (sym q ∙ a));
+    work = back-done a (h .room .for-work) (zeros-sized (n * n)) (ran .work);
+    weights = back-done a (h .room .for-weights) (numbers-sized n _) (ran .weights);
+    shares = back-done a (h .room .for-shares) (numbers-sized n _) (ran .shares);
+    in-range = λ k p. ranges.in-range (h .sound) words (h .answer);
+    balancing = λ s g. demands.balancing n _ (s .order .low) g;
+    accurate = λ k p.
+        let b = a in
+        let e : boundCount n ≡ k = cc in
+        rw (← e)
+        (accurate-cong (front-number n (weightsOf c) (old .weights) (ran .weights)) (front-number n (sharesOf c) (old .shares) (ran .shares))
+        (demands.accurate c (h .sound .order .low) (h .answer) (ranges.all-fit (h .sound) words (h .answer))));
+  }
+    where
+      n : ℕ
+      n = c .order
 
-  -- 5
-  pub room-refused : (r : Outcome) {k : ℕ} → checked n starts columns rates ≡ accepts k → room ≡ false → verdict r ≡ refuses of-chain (numbered 5 0 0)
-      → Solved n starts columns rates m e wm we sm se r m e wm we sm se
-  unfolding solved
-  room-refused r c b q = refused r (q ∙ sym (rw (c, b))) q
+      h : Solvable c old
+      h = accepted-solvable c old (sym q ∙ ap verdict t)
 
-  -- 6
-  pub reach-refused : (r : Outcome) (f : Refusal) {k : ℕ} → checked n starts columns rates ≡ accepts k → room ≡ true → verdict r ≡ answered n starts columns rates → r ≡ Refused f
-      → Solved n starts columns rates m e wm we sm se r m e wm we sm se
-  unfolding solved
-  reach-refused r f c b q t =
-      let a : answered n starts columns rates ≡ refusal f = sym q ∙ ap verdict t in
-      refused r (q ∙ a ∙ sym (rw (c, b, a))) (ap verdict t)
-
-  -- the chain is solved
-  module _ {k₁ k₂ : ℕ} (passed : checked n starts columns rates ≡ accepts k₁) (enough : room ≡ true) (reached : answered n starts columns rates ≡ accepts k₂)
-      (words : (p : ℕ) → getD rates p 0 < 4294967296)
-      {m₁ : List ℕ} {e₁ : List ℤ} {wm₁ : List ℕ} {we₁ : List ℤ} {sm₁ : List ℕ} {se₁ : List ℤ} (ran : Ran n starts columns rates m₁ e₁ wm₁ we₁ sm₁ se₁) where
-    pub solved-done : (r : Outcome) → verdict r ≡ accepts (boundCount n)
-        → Solved n starts columns rates m e wm we sm se r (m₁ ++ drop (n * n) m) (e₁ ++ drop (n * n) e) (wm₁ ++ drop n wm) (we₁ ++ drop n we) (sm₁ ++ drop n sm) (se₁ ++ drop n se)
-    unfolding solved
-    solved-done r q = record {
-      answer = verdict-is;
-      says = rw verdict-is (solved-says n starts columns rates room);
-      work-m = after-done _ _ m (n * n) q (length-replicate 0 (n * n)) (places .for-m) (ran .work-m);
-      work-e = after-done _ _ e (n * n) q (length-replicate (pos 0) (n * n)) (places .for-e) (ran .work-e);
-      weight-m = after-done _ _ wm n q (table-length 0 n _) (places .for-wm) (ran .weight-m);
-      weight-e = after-done _ _ we n q (table-length (pos 0) n _) (places .for-we) (ran .weight-e);
-      share-m = after-done _ _ sm n q (table-length 0 n _) (places .for-sm) (ran .share-m);
-      share-e = after-done _ _ se n q (table-length (pos 0) n _) (places .for-se) (ran .share-e);
-      in-range = λ k p. ranges.in-range sound words answer-held;
-      balancing = λ k p. demands.balancing n _ (sound .order .low) answer-held;
-      accurate = λ k p.
-          let c : boundCount n ≡ k = cc in
-          rw (← c) (accurate-cong
-          (λ i l. ap₂ (λ (x : List ℕ) (y : List ℤ). numberAt (x ++ drop n wm) (y ++ drop n we) i) (ran .weight-m) (ran .weight-e) ∙ front-number n (weightsOf n starts columns rates) _ _ i l)
-          (λ i l. ap₂ (λ (x : List ℕ) (y : List ℤ). numberAt (x ++ drop n sm) (y ++ drop n se) i) (ran .share-m) (ran .share-e) ∙ front-number n (sharesOf n starts columns rates) _ _ i l)
-          (demands.accurate n starts columns rates (sound .order .low) answer-held (ranges.all-fit sound words answer-held)));
-    }
-      where
-        verdict-is : verdict r ≡ solved n starts columns rates room
-        verdict-is = q ∙ sym (rw (passed, enough, reached))
-
-        sound : Sound n starts columns rates
-        sound = accepted-sound n starts columns rates passed
-
-        answer-held : HasAnswer n (rateIn starts columns rates)
-        answer-held = accepted-answer n starts columns rates reached .1
-
-        places : Roomy n (length m) (length e) (length wm) (length we) (length sm) (length se)
-        places = roomy _ _ _ _ _ _ _ enough
+      a : verdict r ≡ accepts (boundCount n)
+      a = q ∙ solvable-accepted c old h
 
 -- ---- the slices, cut to the needed places
 
-pub cut-sized : (n : ℕ) (m : List ℕ) (e : List ℤ) → n ≤ length m → n ≤ length e → Sized n (take n m) (take n e)
-cut-sized n m e lm le = record { size-m = length-take-le n m lm; size-e = length-take-le n e le }
+pub cut-long : {A : Type 0} (k : ℕ) (l : List A) → k ≤ length l → k ≡ length (take k l)
+cut-long k l h = sym (length-take-le k l h)
 
-pub weighable : (n : ℕ) (starts columns rates : List ℕ) (m : List ℕ) (e : List ℤ) (wm : List ℕ) (we : List ℤ) {j k : ℕ} → checked n starts columns rates ≡ accepts j
-    → answered n starts columns rates ≡ accepts k → ((p : ℕ) → getD rates p 0 < 4294967296) → n * n ≤ length m → n * n ≤ length e → n ≤ length wm → n ≤ length we
-    → Weighable n starts columns rates (take (n * n) m) (take (n * n) e) (take n wm) (take n we)
-weighable n starts columns rates m e wm we c a w lm le lwm lwe =
-    let s = accepted-sound n starts columns rates c in
-    record {
-      sound = s;
-      words = w;
-      answer = accepted-answer n starts columns rates a .1;
-      square = record { order = s .order .high; size-m = length-take-le _ m lm; size-e = length-take-le _ e le };
-      sized = cut-sized n wm we lwm lwe;
-    }
+abbrev cut : ℕ → Slices → Slices
+cut k s = pair (take k (s .m)) (take k (s .e))
+
+cut-sized : {k : ℕ} {s : Slices} → Places k s → Sized k (cut k s)
+cut-sized p = record { size-m = length-take-le _ _ (p .for-m); size-e = length-take-le _ _ (p .for-e) }
+
+pub runnable : {c : Rows} {l : Lent} → Solvable c l → ((p : ℕ) → getD (c .rates) p 0 < 4294967296)
+    → Weighable c (cut (c .order * c .order) (l .work)) (cut (c .order) (l .weights)) × Sized (c .order) (cut (c .order) (l .shares))
+runnable h w =
+    let z = cut-sized (h .room .for-work) in (
+      record {
+        sound = h .sound;
+        words = w;
+        answer = h .answer;
+        square = record { order = h .sound .order .high; size-m = z .size-m; size-e = z .size-e };
+        sized = cut-sized (h .room .for-weights);
+      },
+      cut-sized (h .room .for-shares),
+    )

@@ -1,6 +1,5 @@
 -- R-7: the range theorem holds of every chain that passes the other checks, so every number met is a scaled number, well inside the
 -- range, and nothing is divided by Zero. Assumes nothing.
-use mathlib.Core.List.{List}
 use mathlib.Core.Logic.{_≢_, inl, inr, ⊎-elim}
 use mathlib.Core.Path.{_≡_, sym, ap, _∙_}
 use Prim.Native.Nat.{ℕ, zero, suc, _+_, _-_, _^_, _<_}
@@ -18,16 +17,15 @@ use Rattle.scaled.specs.declared.Scaled.{Scaled}
 use Rattle.scaled.specs.Scaled.{zeroNumber}
 use Rattle.scaled.specs.Units.{val, one}
 use Rattle.scaled.proofs.Laws as laws
+use Rattle.chain.specs.Rows.{Rows}
 use Rattle.chain.specs.Sound.{Sound}
 use Rattle.chain.specs.Meaning.{rateIn}
 use Rattle.chain.proofs.RateLaws.{Move, rate-move, entry-rate}
-use Rattle.kernel.specs.Numbers.{Fit, dividedBy, ops}
-use Rattle.kernel.specs.Kernel.{stage}
+use Rattle.kernel.specs.Numbers.{Fit, dividedBy, ops, stage}
 use Rattle.kernel.proofs.Operands.{over-both}
 use Rattle.kernel.proofs.Steps.{stage-fits}
-use Rattle.solver.specs.Load.{entries}
-use Rattle.solver.specs.Solve.{weightsOf, sharesOf, WellInside, InRange}
-use Rattle.solver.proofs.Operations.{promises, factor-mild, roomy}
+use Rattle.solver.specs.Solve.{entries, weightsOf, sharesOf, WellInside, AllInside}
+use Rattle.solver.proofs.Operations.{promises, factor-mild, ample}
 
 well-inside : (x : Scaled) → Within one val Fit x → WellInside x
 unfolding margin
@@ -39,56 +37,56 @@ well-inside x w = record {
 
 -- what divides is not Zero
 divisor : (x y : Scaled) → Fit (dividedBy x y) → y ≢ zeroNumber
-divisor x y f e = omega (arith, over-both x y f .2, ap (λ (z : Scaled). z .m) e)
+divisor x y f = over-both x y f .2
 
-module _ {n : ℕ} {starts columns rates : List ℕ} (s : Sound n starts columns rates) (words : (p : ℕ) → getD rates p 0 < 4294967296) where
+module _ {c : Rows} (s : Sound c) (words : (p : ℕ) → getD (c .rates) p 0 < 4294967296) where
   -- a rate between two states is one of the rates, or 0
-  rate-word : (i j : ℕ) → i < n → rateIn starts columns rates i j < 2 ^ 32
-  rate-word i j hi = ⊎-elim (λ z. omega arith) (λ z. of-move (rate-move starts columns rates i j z)) (eq-zero-or-pos (rateIn starts columns rates i j))
+  rate-word : (i j : ℕ) → i < c .order → rateIn c i j < 2 ^ 32
+  rate-word i j hi = ⊎-elim (λ z. omega arith) (λ z. of-move (rate-move c i j z)) (eq-zero-or-pos (rateIn c i j))
     where
-      of-move : Move starts columns rates i j → rateIn starts columns rates i j < 2 ^ 32
+      of-move : Move c i j → rateIn c i j < 2 ^ 32
       of-move m =
-          let q : rateIn starts columns rates i j ≡ getD rates (m .place) 0 = ap (rateIn starts columns rates i) (sym (m .column)) ∙ entry-rate s i hi (m .place) (m .from) (m .to) in
+          let q : rateIn c i j ≡ getD (c .rates) (m .place) 0 = ap (rateIn c i) (sym (m .column)) ∙ entry-rate s i hi (m .place) (m .from) (m .to) in
           omega (arith, words (m .place))
 
-  module _ (answer : HasAnswer n (rateIn starts columns rates)) where
+  module _ (answer : HasAnswer (c .order) (rateIn c)) where
     abbrev x : ℕ → ℕ → Scaled
-    x = entries starts columns rates
+    x = entries c
 
-    order : suc (n - 1) ≡ n
+    order : suc (c .order - 1) ≡ c .order
     order = omega (arith, s .order .low)
 
-    filled : Filled one val Fit mostStates mostRate (n - 1) x (rateIn starts columns rates)
+    filled : Filled one val Fit mostStates mostRate (c .order - 1) x (rateIn c)
     unfolding entries mostStates mostRate
     filled = record {
       order = omega (arith, s .order .high, order);
       answer = rw order answer;
       rates = λ i j hi hj _. omega (arith, rate-word i j (omega (arith, order)));
-      fits = λ i j hi hj _. laws.rate-scaled (rateIn starts columns rates i j) (rate-word i j (omega (arith, order)));
-      is = λ i j _ _ _. laws.rate-value (rateIn starts columns rates i j);
+      fits = λ i j hi hj _. laws.rate-scaled (rateIn c i j) (rate-word i j (omega (arith, order)));
+      is = λ i j _ _ _. laws.rate-value (rateIn c i j);
     }
 
     -- every number met is a scaled number
-    pub all-fit : AllFitShares ops Fit (n - 1) x
-    all-fit = range-fits promises factor-mild roomy filled
+    pub all-fit : AllFitShares ops Fit (c .order - 1) x
+    all-fit = range-fits promises factor-mild ample filled
 
-    pivot-some : (k : ℕ) → k + 1 < n → pivotOf ops (n - (k + 1)) (stage n k x) ≢ zeroNumber
+    pivot-some : (k : ℕ) → k + 1 < c .order → pivotOf ops (c .order - (k + 1)) (stage (c .order) k x) ≢ zeroNumber
     unfolding quotientAt
-    pivot-some k l = go (n - (k + 1)) (omega arith) (stage-fits n x (all-fit .elimination) k (omega arith))
+    pivot-some k l = go (c .order - (k + 1)) (omega arith) (stage-fits (c .order) x (all-fit .elimination) k (omega arith))
       where
-        go : (r : ℕ) → 0 < r → AllFit ops Fit r (stage n k x) → pivotOf ops r (stage n k x) ≢ zeroNumber
+        go : (r : ℕ) → 0 < r → AllFit ops Fit r (stage (c .order) k x) → pivotOf ops r (stage (c .order) k x) ≢ zeroNumber
         go zero p f = absurd (omega arith)
-        go (suc r) p f = divisor (stage n k x 0 1) (pivotOf ops (suc r) (stage n k x)) (f .0 .quotients 0 (omega arith))
+        go (suc r) p f = divisor (stage (c .order) k x 0 1) (pivotOf ops (suc r) (stage (c .order) k x)) (f .0 .quotients 0 (omega arith))
 
-    total-some : total ops n (weightsOf n starts columns rates) ≢ zeroNumber
+    total-some : total ops (c .order) (weightsOf c) ≢ zeroNumber
     unfolding weightsOf shares
-    total-some = rw order at (divisor (weights ops (n - 1) x 0) (total ops (suc (n - 1)) (weights ops (n - 1) x)) (all-fit .shares-fit 0 (omega arith)))
+    total-some = rw order at (divisor (weights ops (c .order - 1) x 0) (total ops (suc (c .order - 1)) (weights ops (c .order - 1) x)) (all-fit .shares-fit 0 (omega arith)))
 
-    pub in-range : InRange n starts columns rates
+    pub in-range : AllInside c
     unfolding sharesOf
     in-range = record {
-      numbers = shares-fit-map ops well-inside (n - 1) x (range promises factor-mild roomy filled);
+      numbers-met = shares-fit-map ops well-inside (c .order - 1) x (range promises factor-mild ample filled);
       pivots = pivot-some;
       total-weight = total-some;
-      groups = λ test k l. well-inside _ (range-groups promises factor-mild roomy filled test k (omega (arith, order)));
+      groups = λ test k l. well-inside _ (range-groups promises factor-mild ample filled test k (omega (arith, order)));
     }

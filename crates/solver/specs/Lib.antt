@@ -1,3 +1,4 @@
--- What the contract of `solve` cites.
-pub mod Load
+-- What the contract of `solve` cites, and apart from it (Inner) what the contracts of its parts cite.
+pub mod Lent
 pub mod Solve
+pub mod Inner

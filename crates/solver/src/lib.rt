@@ -3,10 +3,14 @@ ghost use mathlib.Core.Path.{_≡_};
 ghost use Prim.Native.Nat.{ℕ, _+_, _*_, _-_, _<_, _≤_};
 ghost use lib.IntN.{pos};
 ghost use lib.ListN.{length, getD, replicate};
-ghost use Rattle.kernel.specs.Kernel.{Square, Sized, Holds};
+ghost use Rattle.refusal.specs.Table.{verdict};
 ghost use Rattle.markov.specs.Count.{boundCount};
-ghost use Rattle.solver.specs.Solve.{roomFor, weightsOf, Weighable, Ran, Solved};
-ghost use Rattle.solver.specs.Load.{Listed, RowLoaded, Loadable, Loaded, EntryLoaded};
+ghost use Rattle.chain.specs.Rows.{inRows};
+ghost use Rattle.kernel.specs.Slices.{slices};
+ghost use Rattle.kernel.specs.Kernel.{Square, Sized, Holds};
+ghost use Rattle.solver.specs.Lent.{lent, bothHave, enough};
+ghost use Rattle.solver.specs.Solve.{weightsOf, solved, Solved};
+ghost use Rattle.solver.specs.Inner.{Listed, RowLoaded, Loadable, Loaded, EntryLoaded, Weighable, Ran};
 use refusal::ChainReason;
 use refusal::Outcome;
 use refusal::Refusal;
@@ -82,9 +86,10 @@ fn load_entry(
     m: &mut [u32],
     e: &mut [i32],
 )
-    requires { ⌜ Square r (now m) (now e) ⌝ }
+    requires { ⌜ Square r (slices m e) ⌝ }
     requires { ⌜ (a < r) × (p < length (now columns)) × (p < length (now rates)) × (getD (now columns) p 0 < length (now places)) ⌝ }
-    ensures { λ _. ⌜ EntryLoaded r a (getD (now (places .entry)) (getD (now (columns .entry)) p 0) 0) (getD (now (rates .entry)) p 0) (now (m .entry)) (now (e .entry)) (now (m .exit)) (now (e .exit)) ⌝ }
+    ensures { λ _. ⌜ EntryLoaded r a (getD (now (places .entry)) (getD (now (columns .entry)) p 0) 0) (getD (now (rates .entry)) p 0)
+        (slices (m .entry) (e .entry)) (slices (m .exit) (e .exit)) ⌝ }
 {
     let b = places[wide(columns[p])];
     if b < r {
@@ -105,9 +110,10 @@ fn load_row(
     m: &mut [u32],
     e: &mut [i32],
 )
-    requires { ⌜ Loadable n r (now starts) (now states) (now places) (now columns) (now rates) (now m) (now e) ⌝ }
+    requires { ⌜ Loadable (inRows n starts columns rates) (now states) (now places) r (slices m e) ⌝ }
     requires { ⌜ a < r ⌝ }
-    ensures { λ _. ⌜ RowLoaded r a (getD (now (starts .entry)) (getD (now (states .entry)) a 0) 0) (getD (now (starts .entry)) (getD (now (states .entry)) a 0 + 1) 0) (now (states .entry)) (now (columns .entry)) (now (rates .entry)) (now (m .entry)) (now (e .entry)) (now (m .exit)) (now (e .exit)) ⌝ }
+    ensures { λ _. ⌜ RowLoaded (inRows n (starts .entry) (columns .entry) (rates .entry)) (now (states .entry)) r a
+        (getD (now (starts .entry)) (getD (now (states .entry)) a 0 + 1) 0) (slices (m .entry) (e .entry)) (slices (m .exit) (e .exit)) ⌝ }
 {
     let i = states[a];
     let end = wide(starts[i + 1]);
@@ -130,8 +136,8 @@ fn load(
     m: &mut [u32],
     e: &mut [i32],
 )
-    requires { ⌜ Loadable n r (now starts) (now states) (now places) (now columns) (now rates) (now m) (now e) ⌝ }
-    ensures { λ _. ⌜ Loaded r (now (starts .entry)) (now (states .entry)) (now (columns .entry)) (now (rates .entry)) (now (m .exit)) (now (e .exit)) ⌝ }
+    requires { ⌜ Loadable (inRows n starts columns rates) (now states) (now places) r (slices m e) ⌝ }
+    ensures { λ _. ⌜ Loaded (inRows n (starts .entry) (columns .entry) (rates .entry)) (now (states .entry)) r (slices (m .exit) (e .exit)) ⌝ }
 {
     clear(m, e);
     let mut a = 0;
@@ -228,8 +234,8 @@ fn weigh(
     wm: &mut [u32],
     we: &mut [i32],
 )
-    requires { ⌜ Weighable n (now starts) (now columns) (now rates) (now m) (now e) (now wm) (now we) ⌝ }
-    ensures { λ _. ⌜ Holds n (weightsOf n (now (starts .entry)) (now (columns .entry)) (now (rates .entry))) (now (wm .exit)) (now (we .exit)) ⌝ }
+    requires { ⌜ Weighable (inRows n starts columns rates) (slices m e) (slices wm we) ⌝ }
+    ensures { λ _. ⌜ Holds n (weightsOf (inRows n (starts .entry) (columns .entry) (rates .entry))) (slices (wm .exit) (we .exit)) ⌝ }
 {
     let states = all_states(n);
     let list = states.list;
@@ -251,43 +257,68 @@ fn run(
     sm: &mut [u32],
     se: &mut [i32],
 )
-    requires { ⌜ Weighable n (now starts) (now columns) (now rates) (now m) (now e) (now wm) (now we) ⌝ }
-    requires { ⌜ Sized n (now sm) (now se) ⌝ }
-    ensures { λ _. ⌜ Ran n (now (starts .entry)) (now (columns .entry)) (now (rates .entry)) (now (m .exit)) (now (e .exit)) (now (wm .exit)) (now (we .exit)) (now (sm .exit)) (now (se .exit)) ⌝ }
+    requires { ⌜ Weighable (inRows n starts columns rates) (slices m e) (slices wm we) ⌝ }
+    requires { ⌜ Sized n (slices sm se) ⌝ }
+    ensures { λ _. ⌜ Ran (inRows n (starts .entry) (columns .entry) (rates .entry)) (lent (m .exit) (e .exit) (wm .exit) (we .exit) (sm .exit) (se .exit)) ⌝ }
 {
     weigh(n, starts, columns, rates, m, e, wm, we);
     clear(m, e);
     kernel::share(wm, we, n, sm, se);
 }
 
-// Whether every lent slice has the needed places.
+fn both_have(k: usize, m: usize, e: usize) -> bool
+    ensures { λ r. ⌜ r ≡ bothHave k m e ⌝ }
+{
+    k <= m && k <= e
+}
+
+// Whether lent slices of these lengths have the needed places.
 fn enough(n: usize, m: usize, e: usize, wm: usize, we: usize, sm: usize, se: usize) -> bool
     requires { ⌜ n ≤ 64 ⌝ }
-    ensures { λ r. ⌜ r ≡ roomFor n m e wm we sm se ⌝ }
+    ensures { λ r. ⌜ r ≡ enough n m e wm we sm se ⌝ }
 {
-    let need = n * n;
-    if m < need {
+    if !both_have(n * n, m, e) {
         return false;
     }
-    if e < need {
+    if !both_have(n, wm, we) {
         return false;
     }
-    if wm < n {
-        return false;
+    both_have(n, sm, se)
+}
+
+// 1 to 6, for lent slices of these lengths: the first refusal, or the bound count.
+fn admit(
+    n: usize,
+    starts: &[u32],
+    columns: &[u32],
+    rates: &[u32],
+    m: usize,
+    e: usize,
+    wm: usize,
+    we: usize,
+    sm: usize,
+    se: usize,
+) -> Outcome
+    ensures { λ r. ⌜ verdict r ≡ solved (inRows n (starts .entry) (columns .entry) (rates .entry)) (enough n m e wm we sm se) ⌝ }
+{
+    let answer = chain::check(n, starts, columns, rates);
+    let Outcome::Done(_) = answer else {
+        return answer;
+    };
+    if !enough(n, m, e, wm, we, sm, se) {
+        return Outcome::Refused(Refusal::Chain(ChainReason::Room));
     }
-    if we < n {
-        return false;
-    }
-    if sm < n {
-        return false;
-    }
-    n <= se
+    let reached = reach::check_sound(n, starts, columns, rates);
+    let Outcome::Done(_) = reached else {
+        return reached;
+    };
+    Outcome::Done(bound_count(n))
 }
 
 // Solves a chain: the weights (m, e) go to wm, we and the shares to sm, se; the answer is the bound count, or the first refusal of 1 to 6.
-// m and e are work places. The contract, `Solved`, holds for any input: it says the answer, every lent place at exit, that every
-// number met lies well inside the range (R-7), that the exact weights balance an accepted chain and nothing else does (demand 2), and
-// how near the results are to them (demand 3).
+// m and e are work places. The contract, `Solved`, holds for any input: it says the answer and what that means (demand 1), every lent
+// place at exit, that the exact weights balance a chain that has an answer and nothing else does (demand 2), and for an accepted chain how
+// near the results are to them (demand 3) and that every number met lies well inside the range (R-7).
 pub fn solve(
     n: usize,
     starts: &[u32],
@@ -300,18 +331,24 @@ pub fn solve(
     sm: &mut [u32],
     se: &mut [i32],
 ) -> Outcome
-    ensures { λ r. ⌜ Solved n (now (starts .entry)) (now (columns .entry)) (now (rates .entry)) (now (m .entry)) (now (e .entry)) (now (wm .entry)) (now (we .entry)) (now (sm .entry)) (now (se .entry)) r (now (m .exit)) (now (e .exit)) (now (wm .exit)) (now (we .exit)) (now (sm .exit)) (now (se .exit)) ⌝ }
+    ensures { λ r. ⌜ Solved (inRows n (starts .entry) (columns .entry) (rates .entry))
+        (lent (m .entry) (e .entry) (wm .entry) (we .entry) (sm .entry) (se .entry)) r
+        (lent (m .exit) (e .exit) (wm .exit) (we .exit) (sm .exit) (se .exit)) ⌝ }
 {
-    let answer = chain::check(n, starts, columns, rates);
+    let answer = admit(
+        n,
+        starts,
+        columns,
+        rates,
+        m.len(),
+        e.len(),
+        wm.len(),
+        we.len(),
+        sm.len(),
+        se.len(),
+    );
     let Outcome::Done(_) = answer else {
         return answer;
-    };
-    if !enough(n, m.len(), e.len(), wm.len(), we.len(), sm.len(), se.len()) {
-        return Outcome::Refused(Refusal::Chain(ChainReason::Room));
-    }
-    let reached = reach::check_answer(n, starts, columns, rates);
-    let Outcome::Done(_) = reached else {
-        return reached;
     };
     let need = n * n;
     run(
@@ -326,5 +363,5 @@ pub fn solve(
         &mut sm[..n],
         &mut se[..n],
     );
-    Outcome::Done(bound_count(n))
+    answer
 }

@@ -1,4 +1,4 @@
--- The answer slice and the returned number, case by case. Assumes nothing.
+-- The answer slice, and an exported call from the call within. Assumes nothing.
 use mathlib.Core.Bool.{Bool, cond}
 use mathlib.Core.List.{List, [], _∷_}
 use mathlib.Core.Path.{_≡_, ap, sym, subst}
@@ -6,32 +6,36 @@ use Prim.Native.Nat.{ℕ, _<_, _≤_}
 use lib.ListN.{length, set}
 use lib.Seq.{sets}
 use borrow.Author.Tests.{le-leb, lt-leb}
-use Rattle.refusal.specs.declared.Refusal.{Refusal}
 use Rattle.refusal.specs.declared.Outcome.{Outcome}
-use Rattle.refusal.specs.declared.Outcome.the-variants as outcome
-use Rattle.refusal.specs.Table.{side, line}
+use Rattle.refusal.specs.Table.{Verdict, verdict}
+use Rattle.chain.specs.Rows.{Rows}
 use Rattle.storage.specs.declared.Reading.{Reading}
-use Rattle.storage.specs.declared.Reading.the-variants as reading
-use Rattle.stall.specs.Answer.{refusalPlaces, answered}
-use Rattle.stall.specs.Calls.{CountTold, ReadingTold}
+use Rattle.storage.specs.Reading.{Buffers, told, Read}
+use Rattle.storage.specs.Writing.{Written}
+use Rattle.solver.specs.Lent.{Lent}
+use Rattle.solver.specs.Solve.{Solved}
+use Rattle.stall.specs.Answer.{handed, CountTold, ReadingTold}
+use Rattle.stall.specs.Calls.{SolveCalled, ReadCalled, WriteCalled}
 
 -- a slice with room takes the three places, a shorter one is kept
-pub three-put : (a : List ℕ) (first second third : ℕ) → 3 ≤ length a → set (set (set a 0 first) 1 second) 2 third ≡ answered a (first ∷ second ∷ third ∷ [])
-unfolding answered
+pub three-put : (a : List ℕ) (first second third : ℕ) → 3 ≤ length a → set (set (set a 0 first) 1 second) 2 third ≡ handed a (first ∷ second ∷ third ∷ [])
+unfolding handed
 three-put a first second third h = sym (ap (λ (b : Bool). cond b (sets a 0 (first ∷ second ∷ third ∷ [])) a) (le-leb 3 (length a) h))
 
-pub none-put : (a places : List ℕ) → length a < 3 → a ≡ answered a places
-unfolding answered
+pub none-put : (a places : List ℕ) → length a < 3 → a ≡ handed a places
+unfolding handed
 none-put a places h = sym (ap (λ (b : Bool). cond b (sets a 0 places) a) (lt-leb 3 (length a) h))
 
-pub count-refused : {o : Outcome} {x : Refusal} {a : List ℕ} {r : ℕ} {a′ : List ℕ} → o ≡ outcome.Refused x → r ≡ line x .number → a′ ≡ answered a (refusalPlaces (side x) (line x)) → CountTold o a r a′
-count-refused {o} {x} {a} {r} {a′} e p q = subst (λ (o : Outcome). CountTold o a r a′) (sym e) (record { returned = p; answer-is = q })
+-- ---- the calls
 
-pub count-given : {o : Outcome} {k : ℕ} {a : List ℕ} {r : ℕ} {a′ : List ℕ} → o ≡ outcome.Done k → r ≡ 0 → a′ ≡ answered a (k ∷ 0 ∷ 0 ∷ []) → CountTold o a r a′
-count-given {o} {k} {a} {r} {a′} e p q = subst (λ (o : Outcome). CountTold o a r a′) (sym e) (record { returned = p; answer-is = q })
+module _ {answer : List ℕ} {r : ℕ} {answer′ : List ℕ} where
+  pub solve-called : {c : Rows} {old : Lent} {o : Outcome} {new : Lent} → Solved c old o new → CountTold (verdict o) answer r answer′ → SolveCalled c old answer r new answer′
+  solve-called {o = o} s t = record { outcome = o; call = s; told = subst (λ (v : Verdict ℕ). CountTold v answer r answer′) (s .answer) t }
 
-pub reading-refused : {o : Reading} {x : Refusal} {a : List ℕ} {r : ℕ} {a′ : List ℕ} → o ≡ reading.Refused x → r ≡ line x .number → a′ ≡ answered a (refusalPlaces (side x) (line x)) → ReadingTold o a r a′
-reading-refused {o} {x} {a} {r} {a′} e p q = subst (λ (o : Reading). ReadingTold o a r a′) (sym e) (record { returned = p; answer-is = q })
+  pub read-called : {bytes : List ℕ} {old : Buffers} {o : Reading} {new : Buffers} → Read bytes old o new → ReadingTold (told o) answer r answer′
+      → ReadCalled bytes old answer r new answer′
+  read-called {o = o} s t = record { outcome = o; call = s; told = subst (λ (v : Verdict (ℕ × ℕ)). ReadingTold v answer r answer′) (s .answer) t }
 
-pub reading-given : {o : Reading} {n k : ℕ} {a : List ℕ} {r : ℕ} {a′ : List ℕ} → o ≡ reading.Chain n k → r ≡ 0 → a′ ≡ answered a (n ∷ k ∷ 0 ∷ []) → ReadingTold o a r a′
-reading-given {o} {n} {k} {a} {r} {a′} e p q = subst (λ (o : Reading). ReadingTold o a r a′) (sym e) (record { returned = p; answer-is = q })
+  pub write-called : {c : Rows} {out : List ℕ} {o : Outcome} {out′ : List ℕ} → Written c out o out′ → CountTold (verdict o) answer r answer′
+      → WriteCalled c out answer r out′ answer′
+  write-called {o = o} s t = record { outcome = o; call = s; told = subst (λ (v : Verdict ℕ). CountTold v answer r answer′) (s .answer) t }

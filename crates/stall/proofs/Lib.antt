@@ -1,3 +1,2 @@
--- What the proofs of several functions use, and what the contracts come to.
+-- Laws of the answer slice.
 pub mod Answers
-pub mod Direct

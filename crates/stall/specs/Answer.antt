@@ -1,6 +1,7 @@
 -- How an answer is handed to C: a number that is returned, and three places of a lent slice.
 use mathlib.Core.Bool.{cond}
 use mathlib.Core.List.{List, [], _∷_}
+use mathlib.Core.Path.{_≡_}
 use Prim.Native.Nat.{ℕ}
 use lib.Dec.{leb}
 use lib.ListN.{length}
@@ -34,5 +35,17 @@ readPlaces (refuses side line) = refusalPlaces side line
 
 -- the answer slice at exit: the three places stand first and the places beyond keep what they held; a slice shorter than
 -- 3 keeps all it held
-unfoldable pub answered : List ℕ → List ℕ → List ℕ
-answered old places = cond (leb 3 (length old)) (sets old 0 places) old
+unfoldable pub handed : List ℕ → List ℕ → List ℕ
+handed old places = cond (leb 3 (length old)) (sets old 0 places) old
+
+-- what a call returns, and the answer slice at its exit
+pub record Told (number : ℕ) (places answer : List ℕ) (r : ℕ) (answer′ : List ℕ) : Type 0 where
+  pub returned : r ≡ number
+  pub answer-is : answer′ ≡ handed answer places
+
+-- of a solving and of a writing, and of a reading
+abbrev pub CountTold : Verdict ℕ → List ℕ → ℕ → List ℕ → Type 0
+CountTold v = Told (numberOf v) (countPlaces v)
+
+abbrev pub ReadingTold : Verdict (ℕ × ℕ) → List ℕ → ℕ → List ℕ → Type 0
+ReadingTold v = Told (numberOf v) (readPlaces v)

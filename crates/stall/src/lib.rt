@@ -2,16 +2,19 @@
 // `capi/stall.h` declares them. No call asks anything of its lent slices: any lengths do.
 ghost use mathlib.Core.List.{[], _∷_};
 ghost use mathlib.Core.Path.{_≡_};
-ghost use Rattle.refusal.specs.Table.{side, line};
-ghost use Rattle.stall.specs.Answer.{sideNumber, refusalPlaces, answered};
-ghost use Rattle.stall.specs.Calls.{SolveCalled, ReadCalled, WriteCalled, CountTold, ReadingTold};
+ghost use Rattle.refusal.specs.Table.{side, line, verdict};
+ghost use Rattle.chain.specs.Rows.{inRows};
+ghost use Rattle.storage.specs.Reading.{told, inBuffers};
+ghost use Rattle.solver.specs.Lent.{lent};
+ghost use Rattle.stall.specs.Answer.{sideNumber, refusalPlaces, handed, Told, CountTold, ReadingTold};
+ghost use Rattle.stall.specs.Calls.{SolveCalled, ReadCalled, WriteCalled};
 use refusal::Outcome;
 use refusal::Refusal;
 use storage::Reading;
 
 // Three numbers into the first three places of the answer slice, if it has them.
 fn put(answer: &mut [usize], first: usize, second: usize, third: usize)
-    ensures { λ _. ⌜ now (answer .exit) ≡ answered (now (answer .entry)) (first ∷ second ∷ third ∷ []) ⌝ }
+    ensures { λ _. ⌜ now (answer .exit) ≡ handed (now (answer .entry)) (first ∷ second ∷ third ∷ []) ⌝ }
 {
     if 3 <= answer.len() {
         answer[0] = first;
@@ -32,7 +35,7 @@ fn side_number(refusal: Refusal) -> usize
 
 // A refusal's number is returned; its places and the side at fault go to the answer slice.
 fn tell_refusal(refusal: Refusal, answer: &mut [usize]) -> u32
-    ensures { λ r. ⌜ (r ≡ line refusal .number) × (now (answer .exit) ≡ answered (now (answer .entry)) (refusalPlaces (side refusal) (line refusal))) ⌝ }
+    ensures { λ r. ⌜ Told (line refusal .number) (refusalPlaces (side refusal) (line refusal)) (now (answer .entry)) r (now (answer .exit)) ⌝ }
 {
     let listed = refusal::listed(refusal);
     put(answer, listed.first, listed.second, side_number(refusal));
@@ -40,7 +43,7 @@ fn tell_refusal(refusal: Refusal, answer: &mut [usize]) -> u32
 }
 
 fn tell_count(outcome: Outcome, answer: &mut [usize]) -> u32
-    ensures { λ r. ⌜ CountTold outcome (now (answer .entry)) r (now (answer .exit)) ⌝ }
+    ensures { λ r. ⌜ CountTold (verdict outcome) (now (answer .entry)) r (now (answer .exit)) ⌝ }
 {
     match outcome {
         Outcome::Refused(refusal) => tell_refusal(refusal, answer),
@@ -52,7 +55,7 @@ fn tell_count(outcome: Outcome, answer: &mut [usize]) -> u32
 }
 
 fn tell_reading(reading: Reading, answer: &mut [usize]) -> u32
-    ensures { λ r. ⌜ ReadingTold reading (now (answer .entry)) r (now (answer .exit)) ⌝ }
+    ensures { λ r. ⌜ ReadingTold (told reading) (now (answer .entry)) r (now (answer .exit)) ⌝ }
 {
     match reading {
         Reading::Refused(refusal) => tell_refusal(refusal, answer),
@@ -78,7 +81,9 @@ pub extern "C" fn stall_solve(
     se: &mut [i32],
     answer: &mut [usize],
 ) -> u32
-    ensures { λ r. ⌜ SolveCalled n (now (starts .entry)) (now (columns .entry)) (now (rates .entry)) (now (m .entry)) (now (e .entry)) (now (wm .entry)) (now (we .entry)) (now (sm .entry)) (now (se .entry)) (now (answer .entry)) r (now (m .exit)) (now (e .exit)) (now (wm .exit)) (now (we .exit)) (now (sm .exit)) (now (se .exit)) (now (answer .exit)) ⌝ }
+    ensures { λ r. ⌜ SolveCalled (inRows n (starts .entry) (columns .entry) (rates .entry))
+        (lent (m .entry) (e .entry) (wm .entry) (we .entry) (sm .entry) (se .entry)) (now (answer .entry)) r
+        (lent (m .exit) (e .exit) (wm .exit) (we .exit) (sm .exit) (se .exit)) (now (answer .exit)) ⌝ }
 {
     let outcome = solver::solve(n, starts, columns, rates, m, e, wm, we, sm, se);
     tell_count(outcome, answer)
@@ -93,7 +98,8 @@ pub extern "C" fn stall_read(
     rates: &mut [u32],
     answer: &mut [usize],
 ) -> u32
-    ensures { λ r. ⌜ ReadCalled (now (bytes .entry)) (now (starts .entry)) (now (columns .entry)) (now (rates .entry)) (now (answer .entry)) r (now (starts .exit)) (now (columns .exit)) (now (rates .exit)) (now (answer .exit)) ⌝ }
+    ensures { λ r. ⌜ ReadCalled (now (bytes .entry)) (inBuffers (starts .entry) (columns .entry) (rates .entry)) (now (answer .entry)) r
+        (inBuffers (starts .exit) (columns .exit) (rates .exit)) (now (answer .exit)) ⌝ }
 {
     let reading = storage::read(bytes, starts, columns, rates);
     tell_reading(reading, answer)
@@ -109,7 +115,8 @@ pub extern "C" fn stall_write(
     out: &mut [u8],
     answer: &mut [usize],
 ) -> u32
-    ensures { λ r. ⌜ WriteCalled n (now (starts .entry)) (now (columns .entry)) (now (rates .entry)) (now (out .entry)) (now (answer .entry)) r (now (out .exit)) (now (answer .exit)) ⌝ }
+    ensures { λ r. ⌜ WriteCalled (inRows n (starts .entry) (columns .entry) (rates .entry)) (now (out .entry)) (now (answer .entry)) r
+        (now (out .exit)) (now (answer .exit)) ⌝ }
 {
     let outcome = storage::write(n, starts, columns, rates, out);
     tell_count(outcome, answer)

@@ -1,5 +1,4 @@
 -- Laws of stored chains, the loops that read and write them, and the theorems.
-pub mod Verdicts
 pub mod Columns
 pub mod Checks
 pub mod Answers
@@ -12,5 +11,9 @@ pub mod MapBits
 pub mod ReadWrite
 pub mod WriteRead
 pub mod Passes
+pub mod Meaning
+pub mod Calls
 pub mod RoundTrips
+pub mod Determined
 pub mod Cases
+pub mod Prefix

@@ -9,8 +9,8 @@ use lib.Dec.{eqb}
 use lib.ListN.{length, getD, take, drop}
 use lib.Seq.{drop-cons, drop-drop, getD-drop}
 use borrow.Author.Tests.{eqb-true}
-use Rattle.refusal.proofs.FirstLaws.{first-none}
-use Rattle.storage.specs.Bytes.{bitAt, rateAt, ratesAt}
+use Rattle.basics.proofs.FirstLaws.{first-none}
+use Rattle.storage.specs.Bytes.{bitAt, storedRate, ratesAt}
 use Rattle.storage.specs.File.{bit, bitsFrom, has, mapByte, mapOf, bytesOf}
 use Rattle.storage.proofs.MapLaws.{bit-le}
 
@@ -108,20 +108,20 @@ four l a h =
 
 module _ (bytes : List ℕ) (small : (i : ℕ) → getD bytes i 0 < 256) where
   digits : (a : ℕ) (t : List ℕ)
-      → rateAt bytes a % 256 ∷ rateAt bytes a / 256 % 256 ∷ rateAt bytes a / 256 / 256 % 256 ∷ rateAt bytes a / 256 / 256 / 256 ∷ t
+      → storedRate bytes a % 256 ∷ storedRate bytes a / 256 % 256 ∷ storedRate bytes a / 256 / 256 % 256 ∷ storedRate bytes a / 256 / 256 / 256 ∷ t
       ≡ getD bytes a 0 ∷ getD bytes (a + 1) 0 ∷ getD bytes (a + 2) 0 ∷ getD bytes (a + 3) 0 ∷ t
-  unfolding rateAt
+  unfolding storedRate
   digits a t =
       let h₀ = small a in
       let h₁ = small (a + 1) in
       let h₂ = small (a + 2) in
       let h₃ = small (a + 3) in
-      let q₁ : rateAt bytes a / 256 ≡ getD bytes (a + 1) 0 + 256 * getD bytes (a + 2) 0 + 65536 * getD bytes (a + 3) 0 = omega arith in
-      let q₂ : rateAt bytes a / 256 / 256 ≡ getD bytes (a + 2) 0 + 256 * getD bytes (a + 3) 0 = rw q₁ (omega arith) in
-      let e₀ : rateAt bytes a % 256 ≡ getD bytes a 0 = omega arith in
-      let e₁ : rateAt bytes a / 256 % 256 ≡ getD bytes (a + 1) 0 = rw q₁ (omega arith) in
-      let e₂ : rateAt bytes a / 256 / 256 % 256 ≡ getD bytes (a + 2) 0 = rw q₂ (omega arith) in
-      let e₃ : rateAt bytes a / 256 / 256 / 256 ≡ getD bytes (a + 3) 0 = rw q₂ (omega arith) in
+      let q₁ : storedRate bytes a / 256 ≡ getD bytes (a + 1) 0 + 256 * getD bytes (a + 2) 0 + 65536 * getD bytes (a + 3) 0 = omega arith in
+      let q₂ : storedRate bytes a / 256 / 256 ≡ getD bytes (a + 2) 0 + 256 * getD bytes (a + 3) 0 = rw q₁ (omega arith) in
+      let e₀ : storedRate bytes a % 256 ≡ getD bytes a 0 = omega arith in
+      let e₁ : storedRate bytes a / 256 % 256 ≡ getD bytes (a + 1) 0 = rw q₁ (omega arith) in
+      let e₂ : storedRate bytes a / 256 / 256 % 256 ≡ getD bytes (a + 2) 0 = rw q₂ (omega arith) in
+      let e₃ : storedRate bytes a / 256 / 256 / 256 ≡ getD bytes (a + 3) 0 = rw q₂ (omega arith) in
       cc
 
   pub rates-back : (k a : ℕ) → a + 4 * k ≤ length bytes → bytesOf (ratesAt bytes k a) ≡ take (4 * k) (drop a bytes)
@@ -133,8 +133,8 @@ module _ (bytes : List ℕ) (small : (i : ℕ) → getD bytes i 0 < 256) where
 -- ---- rates that are written and read
 
 rate-of : (bytes : List ℕ) (a x : ℕ) (t : List ℕ) → x < 4294967296
-    → drop a bytes ≡ x % 256 ∷ x / 256 % 256 ∷ x / 256 / 256 % 256 ∷ x / 256 / 256 / 256 ∷ t → rateAt bytes a ≡ x
-unfolding rateAt
+    → drop a bytes ≡ x % 256 ∷ x / 256 % 256 ∷ x / 256 / 256 % 256 ∷ x / 256 / 256 / 256 ∷ t → storedRate bytes a ≡ x
+unfolding storedRate
 rate-of bytes a x t h e =
     let g : (i : ℕ) → getD bytes (a + i) 0 ≡ getD (x % 256 ∷ x / 256 % 256 ∷ x / 256 / 256 % 256 ∷ x / 256 / 256 / 256 ∷ t) i 0 =
     λ i. sym (getD-drop a bytes i 0) ∙ ap (λ (l : List ℕ). getD l i 0) e in

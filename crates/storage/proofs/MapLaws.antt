@@ -9,7 +9,8 @@ use lib.ListN.{length, getD, set, drop, drop-of-length-le}
 use lib.Pow.{pow-mono}
 use lib.Seq.{sets, drop-cons}
 use borrow.Author.Tests.{eq-eqb, ne-eqb}
-use Rattle.refusal.proofs.FirstLaws.{by-true, by-false}
+use Rattle.basics.proofs.BoolLaws.{by-true, by-false}
+use Rattle.storage.proofs.Columns.{one-more}
 use Rattle.storage.specs.File.{bit, bitsFrom, has, mapByte, mapOf, bytesOf}
 
 pub has-here : (j c : ℕ) (cs : List ℕ) → c ≡ j → has j (c ∷ cs) ≡ true
@@ -73,9 +74,8 @@ module _ (columns out : List ℕ) (m width k : ℕ) where
   pub map-more : k < width → (v : ℕ) → v ≡ mapByte columns k
       → sets out (m + k) (mapOf columns (width - k) k) ≡ sets (set out (m + k) v) (m + (k + 1)) (mapOf columns (width - (k + 1)) (k + 1))
   map-more h v e =
-      let z : width - k ≡ suc (width - (k + 1)) = omega arith in
       let y : m + (k + 1) ≡ suc (m + k) = omega arith in
-      rw (z, y, e)
+      rw (one-more h, y, e)
 
   pub map-end : width ≤ k → sets out (m + k) (mapOf columns (width - k) k) ≡ out
   map-end h = let z : width - k ≡ 0 = omega arith in rw z

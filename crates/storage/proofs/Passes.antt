@@ -7,16 +7,16 @@ use mathlib.Core.Path.{_≡_, refl, _∙_}
 use native.Mathlib.Omega.{arith}
 use native.Mathlib.Nat.{suc-mul, zero-mul, zero-add, sub-zero, mul-le-mul}
 use native.Mathlib.Numerals.{add-one}
-use lib.Dec.{eqb}
+use lib.Dec.{eqb, ltb}
 use lib.ListN.{length, getD, length-append, List·getD-append}
 use lib.Seq.{getD-append-add}
 use borrow.Author.Tests.{eqb-true}
 use Rattle.chain.specs.Sound.{Sound}
 use Rattle.refusal.specs.Table.{accepts}
-use Rattle.storage.specs.Bytes.{mapBytes, bitAt, rowColumns, rowRates, rowEnd, entries, startsIn, columnsIn, ratesIn, orderOf, startsOf, columnsOf, ratesOf}
-use Rattle.storage.specs.Reading.{rowsChecked, fileChecked}
+use Rattle.storage.specs.Bytes.{mapBytes, bitAt, storedColumns, storedRates, rowEnd, storedCount, startsIn, columnsIn, ratesIn, orderOf, chainOf}
+use Rattle.storage.specs.Reading.{firstBadBit, rowsChecked, fileChecked}
 use Rattle.storage.specs.File.{fileSize}
-use Rattle.storage.proofs.Verdicts.{passed}
+use Rattle.refusal.proofs.VerdictLaws.{accepted-if}
 use Rattle.storage.proofs.Columns.{length-rates-at}
 use Rattle.storage.proofs.Checks.{RowIs, row-of-file}
 use Rattle.storage.proofs.Answers.{file-is}
@@ -29,36 +29,36 @@ module _ (bytes : List ℕ) (n : ℕ) where
 
   starts-count : (k map p : ℕ) → length (startsIn bytes n k map p) ≡ k + 1
   starts-count zero map p = refl
-  starts-count (suc k) map p = omega (arith, starts-count k (rowEnd bytes n map) (p + entries bytes n map))
+  starts-count (suc k) map p = omega (arith, starts-count k (rowEnd bytes n map) (p + storedCount bytes n map))
 
   starts-head : (k map p : ℕ) → getD (startsIn bytes n k map p) 0 0 ≡ p
   starts-head zero map p = refl
   starts-head (suc k) map p = refl
 
-  columns-more : (k map : ℕ) → length (columnsIn bytes n (suc k) map) ≡ entries bytes n map + length (columnsIn bytes n k (rowEnd bytes n map))
-  columns-more k map = length-append (rowColumns bytes n map) (columnsIn bytes n k (rowEnd bytes n map))
+  pub columns-more : (k map : ℕ) → length (columnsIn bytes n (suc k) map) ≡ storedCount bytes n map + length (columnsIn bytes n k (rowEnd bytes n map))
+  columns-more k map = length-append (storedColumns bytes n map) (columnsIn bytes n k (rowEnd bytes n map))
 
   starts-last : (k map p : ℕ) → getD (startsIn bytes n k map p) k 0 ≡ p + length (columnsIn bytes n k map)
   starts-last zero map p = omega arith
-  starts-last (suc k) map p = omega (arith, starts-last k (rowEnd bytes n map) (p + entries bytes n map), columns-more k map)
+  starts-last (suc k) map p = omega (arith, starts-last k (rowEnd bytes n map) (p + storedCount bytes n map), columns-more k map)
 
   starts-low : (k map p i : ℕ) → i ≤ k → p ≤ getD (startsIn bytes n k map p) i 0
   starts-low k map p zero h = omega (arith, starts-head k map p)
   starts-low zero map p (suc i) h = absurd (omega arith)
-  starts-low (suc k) map p (suc i) h = omega (arith, starts-low k (rowEnd bytes n map) (p + entries bytes n map) i (omega arith))
+  starts-low (suc k) map p (suc i) h = omega (arith, starts-low k (rowEnd bytes n map) (p + storedCount bytes n map) i (omega arith))
 
   starts-rise : (k map p i : ℕ) → i < k → getD (startsIn bytes n k map p) i 0 ≤ getD (startsIn bytes n k map p) (suc i) 0
   starts-rise zero map p i h = absurd (omega arith)
-  starts-rise (suc k) map p zero h = omega (arith, starts-head k (rowEnd bytes n map) (p + entries bytes n map))
-  starts-rise (suc k) map p (suc i) h = starts-rise k (rowEnd bytes n map) (p + entries bytes n map) i (omega arith)
+  starts-rise (suc k) map p zero h = omega (arith, starts-head k (rowEnd bytes n map) (p + storedCount bytes n map))
+  starts-rise (suc k) map p (suc i) h = starts-rise k (rowEnd bytes n map) (p + storedCount bytes n map) i (omega arith)
 
   -- ---- as many rates as columns
 
   pub rates-count : (k map : ℕ) → length (columnsIn bytes n k map) ≡ length (ratesIn bytes n k map)
   rates-count zero map = refl
   rates-count (suc k) map =
-      let r : length (ratesIn bytes n (suc k) map) ≡ entries bytes n map + length (ratesIn bytes n k (rowEnd bytes n map)) =
-      length-append (rowRates bytes n map) (ratesIn bytes n k (rowEnd bytes n map)) ∙ rw (length-rates-at bytes (entries bytes n map) (map + mapBytes n)) in
+      let r : length (ratesIn bytes n (suc k) map) ≡ storedCount bytes n map + length (ratesIn bytes n k (rowEnd bytes n map)) =
+      length-append (storedRates bytes n map) (ratesIn bytes n k (rowEnd bytes n map)) ∙ rw (length-rates-at bytes (storedCount bytes n map) (map + mapBytes n)) in
       omega (arith, columns-more k map, rates-count k (rowEnd bytes n map))
 
   -- ---- the columns: the q-th of those from a row on, at place p + q
@@ -69,18 +69,18 @@ module _ (bytes : List ℕ) (n : ℕ) where
     above : begin < place → getD columns (place - 1 - p) 0 < getD columns (place - p) 0
 
   module _ (row map next : ℕ) (r : RowIs bytes n row map next) where
-    in-row : (q : ℕ) → q < entries bytes n map → (getD (rowColumns bytes n map) q 0 < n) × (getD (rowColumns bytes n map) q 0 ≢ row)
+    in-row : (q : ℕ) → q < storedCount bytes n map → (getD (storedColumns bytes n map) q 0 < n) × (getD (storedColumns bytes n map) q 0 ≢ row)
     in-row q h =
         let v = held (bitAt bytes map) (n - 0) 0 q h in
-        bit-column bytes n row map next r (getD (rowColumns bytes n map) q 0) (omega (arith, v .high)) (v .holds)
+        bit-column bytes n row map (r .clean) (getD (storedColumns bytes n map) q 0) (omega (arith, v .high)) (v .holds)
 
-    -- a row leaves out its own column
-    row-few : row < n → entries bytes n map + 1 ≤ n
-    row-few l = go (bitAt bytes map row) refl
-      where
-        go : (t : Bool) → bitAt bytes map row ≡ t → entries bytes n map + 1 ≤ n
-        go true t = absurd (bit-column bytes n row map next r row (omega arith) t .1 refl)
-        go false t = omega (arith, holding-lt (bitAt bytes map) (n - 0) 0 row (omega arith) (omega arith) t)
+  -- a row leaves out its own column
+  pub row-few : (row map : ℕ) → ltb (firstBadBit bytes n row map) (8 * mapBytes n) ≡ false → row < n → storedCount bytes n map + 1 ≤ n
+  row-few row map clean l = go (bitAt bytes map row) refl
+    where
+      go : (t : Bool) → bitAt bytes map row ≡ t → storedCount bytes n map + 1 ≤ n
+      go true t = absurd (bit-column bytes n row map clean row (omega arith) t .1 refl)
+      go false t = omega (arith, holding-lt (bitAt bytes map) (n - 0) 0 row (omega arith) (omega arith) t)
 
   rows-kept : (k row map p e : ℕ) → rowsChecked bytes n k row map p ≡ accepts e → (i place : ℕ) → i < k
       → getD (startsIn bytes n k map p) i 0 ≤ place → place < getD (startsIn bytes n k map p) (suc i) 0
@@ -88,10 +88,10 @@ module _ (bytes : List ℕ) (n : ℕ) where
   rows-kept zero row map p e h i place l a b = absurd (omega arith)
   rows-kept (suc k) row map p e h zero place l a b =
       let s = row-of-file bytes n k row map p e h in
-      let c : place < p + entries bytes n map = rw (starts-head k (rowEnd bytes n map) (p + entries bytes n map)) at b in
-      let C = rowColumns bytes n map in
+      let c : place < p + storedCount bytes n map = rw (starts-head k (rowEnd bytes n map) (p + storedCount bytes n map)) at b in
+      let C = storedColumns bytes n map in
       let D = columnsIn bytes n k (rowEnd bytes n map) in
-      let at : getD (columnsIn bytes n (suc k) map) (place - p) 0 ≡ getD (rowColumns bytes n map) (place - p) 0 =
+      let at : getD (columnsIn bytes n (suc k) map) (place - p) 0 ≡ getD (storedColumns bytes n map) (place - p) 0 =
       List·getD-append C D 0 (place - p) (omega arith) in
       let f = in-row row map (rowEnd bytes n map) (s .is) (place - p) (omega arith) in
       let z : row + 0 ≡ row = omega arith in
@@ -105,42 +105,42 @@ module _ (bytes : List ℕ) (n : ℕ) where
       })
   rows-kept (suc k) row map p e h (suc i) place l a b =
       let s = row-of-file bytes n k row map p e h in
-      let C = rowColumns bytes n map in
+      let C = storedColumns bytes n map in
       let D = columnsIn bytes n k (rowEnd bytes n map) in
-      let p′ : ℕ = p + entries bytes n map in
-      let ih = rows-kept k (row + 1) (rowEnd bytes n map) (p + entries bytes n map) e (s .rest) i place (omega arith) a b in
-      let low = starts-low k (rowEnd bytes n map) (p + entries bytes n map) i (omega arith) in
-      let x : place - p ≡ entries bytes n map + (place - (p + entries bytes n map)) = omega arith in
-      let at : getD (columnsIn bytes n (suc k) map) (place - p) 0 ≡ getD (columnsIn bytes n k (rowEnd bytes n map)) (place - (p + entries bytes n map)) 0 =
-      rw x (getD-append-add C D (place - (p + entries bytes n map)) 0) in
+      let p′ : ℕ = p + storedCount bytes n map in
+      let ih = rows-kept k (row + 1) (rowEnd bytes n map) (p + storedCount bytes n map) e (s .rest) i place (omega arith) a b in
+      let low = starts-low k (rowEnd bytes n map) (p + storedCount bytes n map) i (omega arith) in
+      let x : place - p ≡ storedCount bytes n map + (place - (p + storedCount bytes n map)) = omega arith in
+      let at : getD (columnsIn bytes n (suc k) map) (place - p) 0 ≡ getD (columnsIn bytes n k (rowEnd bytes n map)) (place - (p + storedCount bytes n map)) 0 =
+      rw x (getD-append-add C D (place - (p + storedCount bytes n map)) 0) in
       let z : row + suc i ≡ row + 1 + i = omega arith in
       rw z
       (record {
         below = rw at (ih .below);
         not-row = rw at (ih .not-row);
         above = λ m.
-            let y : place - 1 - p ≡ entries bytes n map + (place - 1 - (p + entries bytes n map)) = omega arith in
-            rw (at, y, getD-append-add C D (place - 1 - (p + entries bytes n map)) 0) (ih .above m);
+            let y : place - 1 - p ≡ storedCount bytes n map + (place - 1 - (p + storedCount bytes n map)) = omega arith in
+            rw (at, y, getD-append-add C D (place - 1 - (p + storedCount bytes n map)) 0) (ih .above m);
       })
 
   -- ---- how many
 
   rows-total : (k row map p e : ℕ) → rowsChecked bytes n k row map p ≡ accepts e → e ≡ p + length (columnsIn bytes n k map)
   rows-total zero row map p e h =
-      let q : accepts p ≡ accepts e = passed (eqb map (length bytes)) _ _ _ e h .1 in
+      let q : accepts p ≡ accepts e = accepted-if (eqb map (length bytes)) _ _ _ e h .1 in
       let q′ : p ≡ e = cc in
       omega arith
   rows-total (suc k) row map p e h =
       let s = row-of-file bytes n k row map p e h in
-      omega (arith, rows-total k (row + 1) (rowEnd bytes n map) (p + entries bytes n map) e (s .rest), columns-more k map)
+      omega (arith, rows-total k (row + 1) (rowEnd bytes n map) (p + storedCount bytes n map) e (s .rest), columns-more k map)
 
   rows-size : (k row map p e : ℕ) → rowsChecked bytes n k row map p ≡ accepts e → length bytes ≡ map + k * mapBytes n + 4 * length (columnsIn bytes n k map)
   rows-size zero row map p e h =
-      let q : map ≡ length bytes = eqb-true _ _ (passed (eqb map (length bytes)) _ _ _ e h .0) in
+      let q : map ≡ length bytes = eqb-true _ _ (accepted-if (eqb map (length bytes)) _ _ _ e h .0) in
       rw (zero-mul) (omega arith)
   rows-size (suc k) row map p e h =
       let s = row-of-file bytes n k row map p e h in
-      rw (suc-mul k (mapBytes n)) (omega (arith, rows-size k (row + 1) (rowEnd bytes n map) (p + entries bytes n map) e (s .rest), columns-more k map))
+      rw (suc-mul k (mapBytes n)) (omega (arith, rows-size k (row + 1) (rowEnd bytes n map) (p + storedCount bytes n map) e (s .rest), columns-more k map))
 
   rows-few : (d : ℕ) → n ≡ suc d → (k row map p e : ℕ) → row + k ≤ n → rowsChecked bytes n k row map p ≡ accepts e → length (columnsIn bytes n k map) ≤ k * d
   rows-few d q zero row map p e l h = rw (zero-mul) (omega arith)
@@ -149,18 +149,18 @@ module _ (bytes : List ℕ) (n : ℕ) where
       rw (suc-mul k d)
       (omega (
         arith,
-        row-few row map (rowEnd bytes n map) (s .is) (omega arith),
-        rows-few d q k (row + 1) (rowEnd bytes n map) (p + entries bytes n map) e (omega arith) (s .rest),
+        row-few row map (s .is .clean) (omega arith),
+        rows-few d q k (row + 1) (rowEnd bytes n map) (p + storedCount bytes n map) e (omega arith) (s .rest),
         columns-more k map,
       ))
 
 -- ---- a whole file
 
 module _ (bytes : List ℕ) (e : ℕ) (h : fileChecked bytes ≡ accepts e) where
-  pub file-entries : e ≡ length (columnsOf bytes)
+  pub file-entries : e ≡ length (chainOf bytes .columns)
   file-entries = omega (arith, rows-total bytes (orderOf bytes) (orderOf bytes) 0 1 0 e (file-is bytes e h .rows))
 
-  pub file-sound : Sound (orderOf bytes) (startsOf bytes) (columnsOf bytes) (ratesOf bytes)
+  pub file-sound : Sound (chainOf bytes)
   file-sound =
       let n = orderOf bytes in
       let r = file-is bytes e h .rows in
@@ -171,7 +171,7 @@ module _ (bytes : List ℕ) (e : ℕ) (h : fileChecked bytes ≡ accepts e) wher
           count = starts-count bytes n n 1 0;
           first = starts-head bytes n n 1 0;
           rises = λ i l. rw (add-one i) (starts-rise bytes n n 1 0 i l);
-          last = starts-last bytes n n 1 0 ∙ zero-add (length (columnsOf bytes));
+          last = starts-last bytes n n 1 0 ∙ zero-add (length (chainOf bytes .columns));
         };
         columns-rule = record {
           entry = λ row place l a b.
@@ -188,13 +188,17 @@ module _ (bytes : List ℕ) (e : ℕ) (h : fileChecked bytes ≡ accepts e) wher
   pub file-size : length bytes ≡ fileSize (orderOf bytes) e
   file-size = omega (arith, file-entries, rows-size bytes (orderOf bytes) (orderOf bytes) 0 1 0 e (file-is bytes e h .rows))
 
-  -- "at most 16,641"
-  pub file-small : length bytes ≤ 16641
-  file-small =
+  -- a chain of 64 states has at most 64 × 63 entries
+  pub file-few : e ≤ 4032
+  file-few =
       let n = orderOf bytes in
       let o = file-is bytes e h .order in
-      let c : length (columnsOf bytes) ≤ orderOf bytes * (orderOf bytes - 1) =
-      rows-few bytes (orderOf bytes) (orderOf bytes - 1) (omega (arith, o .low)) (orderOf bytes) 0 1 0 e (omega arith) (file-is bytes e h .rows) in
-      let o′ : orderOf bytes - 1 ≤ 63 = omega (arith, o .high) in
-      let m : orderOf bytes * (orderOf bytes - 1) ≤ 64 * 63 = mul-le-mul (o .high) o′ in
-      omega (arith, file-size, file-entries, c, m, maps-le (orderOf bytes) (o .high))
+      let c : length (chainOf bytes .columns) ≤ n * (n - 1) =
+      rows-few bytes n (n - 1) (omega (arith, o .low)) n 0 1 0 e (omega arith) (file-is bytes e h .rows) in
+      let o′ : n - 1 ≤ 63 = omega (arith, o .high) in
+      let m : n * (n - 1) ≤ 64 * 63 = mul-le-mul (o .high) o′ in
+      omega (arith, file-entries, c, m)
+
+  -- "at most 16,641"
+  pub file-small : length bytes ≤ 16641
+  file-small = omega (arith, file-size, file-few, maps-le (orderOf bytes) (file-is bytes e h .order .high))

@@ -7,18 +7,18 @@ use native.Mathlib.Omega.{arith}
 use native.Mathlib.Numerals.{add-one}
 use lib.ListN.{length, set, length-set}
 use lib.Seq.{sets}
-use Rattle.storage.specs.Bytes.{mapBytes, bitAt, columnsFrom, rowColumns, rowRates, rowEnd, entries, rateAt, ratesAt}
+use Rattle.storage.specs.Bytes.{mapBytes, bitAt, columnsFrom, storedColumns, storedRates, rowEnd, storedCount, storedRate, ratesAt}
 use Rattle.storage.specs.Inner.{FilledRow}
 use Rattle.storage.proofs.Columns.{columns-end, columns-hit, columns-miss}
 
 pub record Filling (bytes : List ℕ) (n map : ℕ) (columns₀ rates₀ : List ℕ) (p : ℕ) (columns rates : List ℕ) (j q place : ℕ) : Type 0 where
   pub turn : j ≤ n
-  pub here : q + length (columnsFrom bytes n map j) ≡ p + entries bytes n map
+  pub here : q + length (columnsFrom bytes n map j) ≡ p + storedCount bytes n map
   pub from : place + 4 * length (columnsFrom bytes n map j) ≡ rowEnd bytes n map
   pub same-columns : length columns ≡ length columns₀
   pub same-rates : length rates ≡ length rates₀
-  pub columns-to : sets columns₀ p (rowColumns bytes n map) ≡ sets columns q (columnsFrom bytes n map j)
-  pub rates-to : sets rates₀ p (rowRates bytes n map) ≡ sets rates q (ratesAt bytes (length (columnsFrom bytes n map j)) place)
+  pub columns-to : sets columns₀ p (storedColumns bytes n map) ≡ sets columns q (columnsFrom bytes n map j)
+  pub rates-to : sets rates₀ p (storedRates bytes n map) ≡ sets rates q (ratesAt bytes (length (columnsFrom bytes n map j)) place)
 
 module _ (bytes : List ℕ) (n map : ℕ) (columns₀ rates₀ : List ℕ) (p : ℕ) where
   pub begin : Filling bytes n map columns₀ rates₀ p columns₀ rates₀ 0 p (map + mapBytes n)
@@ -47,7 +47,7 @@ module _ (bytes : List ℕ) (n map : ℕ) (columns₀ rates₀ : List ℕ) (p : 
           rates-to = rw s at (f .rates-to);
         }
 
-    pub hit : bitAt bytes map j ≡ true → Filling bytes n map columns₀ rates₀ p (set columns q j) (set rates q (rateAt bytes place)) (j + 1) (q + 1) (place + 4)
+    pub hit : bitAt bytes map j ≡ true → Filling bytes n map columns₀ rates₀ p (set columns q j) (set rates q (storedRate bytes place)) (j + 1) (q + 1) (place + 4)
     hit t =
         let s : columnsFrom bytes n map j ≡ j ∷ columnsFrom bytes n map (j + 1) = columns-hit bytes n map j l t in
         let z : length (columnsFrom bytes n map j) ≡ suc (length (columnsFrom bytes n map (j + 1))) = ap length s in
@@ -56,13 +56,13 @@ module _ (bytes : List ℕ) (n map : ℕ) (columns₀ rates₀ : List ℕ) (p : 
           here = omega (arith, f .here);
           from = omega (arith, f .from);
           same-columns = length-set columns q j ∙ f .same-columns;
-          same-rates = length-set rates q (rateAt bytes place) ∙ f .same-rates;
+          same-rates = length-set rates q (storedRate bytes place) ∙ f .same-rates;
           columns-to = f .columns-to ∙ rw (s, add-one q);
           rates-to = f .rates-to ∙ rw (z, add-one q);
         }
 
     -- a bit that stands has its place and its bytes
-    pub room : bitAt bytes map j ≡ true → (q < p + entries bytes n map) × (place + 4 ≤ rowEnd bytes n map)
+    pub room : bitAt bytes map j ≡ true → (q < p + storedCount bytes n map) × (place + 4 ≤ rowEnd bytes n map)
     room t =
         let z : length (columnsFrom bytes n map j) ≡ suc (length (columnsFrom bytes n map (j + 1))) = ap length (columns-hit bytes n map j l t) in
         (omega (arith, f .here), omega (arith, f .from))
@@ -72,7 +72,7 @@ module _ (bytes : List ℕ) (n map : ℕ) (columns₀ rates₀ : List ℕ) (p : 
       let s : columnsFrom bytes n map j ≡ [] = columns-end bytes n map j h in
       let z : length (columnsFrom bytes n map j) ≡ 0 = ap length s in
       record {
-        place = omega (arith, f .here);
+        next = omega (arith, f .here);
         columns-are = sym (f .columns-to ∙ rw s);
         rates-are = sym (f .rates-to ∙ rw z);
       }

@@ -6,18 +6,19 @@ use mathlib.Core.Path.{_≡_, refl, sym, ap, ap₂, subst, _∙_}
 use native.Mathlib.Omega.{arith}
 use native.Mathlib.Nat.{add-zero, zero-add}
 use native.Mathlib.Numerals.{add-one}
-use lib.Dec.{eqb, ltb}
+use lib.Dec.{ltb}
 use lib.ListN.{length, getD, take, drop, length-take, length-drop, length-append, take-append-drop, drop-of-length-le, List·getD-eq-default}
 use lib.Seq.{getD-drop, getD-take, drop-cons, drop-drop, drop-at, length-take-le}
-use borrow.Author.Tests.{eq-eqb, ne-eqb, lt-leb, ltb-true, ltb-false}
+use borrow.Author.Tests.{eq-eqb, ltb-true, ltb-false}
+use Rattle.chain.specs.Rows.{Rows, rows, begins, ends, columnAt}
 use Rattle.chain.specs.Sound.{Sound, SoundEntry}
 use Rattle.chain.proofs.SoundLaws.{order-of, start-within}
-use Rattle.refusal.proofs.FirstLaws.{first-is}
+use Rattle.basics.proofs.FirstLaws.{first-is}
 use Rattle.refusal.specs.Table.{accepts}
-use Rattle.storage.specs.Bytes.{mapBytes, bitAt, rowColumns, rowRates, rowEnd, entries, startsIn, columnsIn, ratesIn, startsOf, columnsOf, ratesOf}
+use Rattle.storage.specs.Bytes.{mapBytes, bitAt, storedColumns, storedRates, rowEnd, storedCount, startsIn, columnsIn, ratesIn, chainOf}
 use Rattle.storage.specs.Reading.{badBit, firstBadBit, rowChecked, rowsChecked, fileChecked}
 use Rattle.storage.specs.File.{has, mapOf, bytesOf, rowBytes, rowsBytes, fileOf}
-use Rattle.storage.proofs.Checks.{bad-none, rates-sound, row-rates}
+use Rattle.storage.proofs.Checks.{not-bad, rates-sound, row-rates, row-is}
 use Rattle.storage.proofs.Answers.{file-rows}
 use Rattle.storage.proofs.MapLaws.{has-there, length-map-of, length-bytes-of}
 use Rattle.storage.proofs.Storing.{drop-part, starts-next, starts-two, starts-last}
@@ -27,10 +28,9 @@ use Rattle.storage.proofs.MapBits.{map-forth, rates-forth}
 -- ---- a row that was written at a place
 
 pub record RowRead (bytes : List ℕ) (n row map : ℕ) (columns rates t : List ℕ) : Type 0 where
-  pub columns-are : rowColumns bytes n map ≡ columns
-  pub rates-are : rowRates bytes n map ≡ rates
+  pub columns-are : storedColumns bytes n map ≡ columns
+  pub rates-are : storedRates bytes n map ≡ rates
   pub sound : rowChecked bytes n row map ≡ accepts (rowEnd bytes n map)
-  pub whole : rowEnd bytes n map ≤ length bytes
   pub rest : drop (rowEnd bytes n map) bytes ≡ t
 
 module _ (bytes : List ℕ) (n row map : ℕ) (columns rates t : List ℕ) (e : drop map bytes ≡ rowBytes n columns rates ++ t) (order : 0 < n)
@@ -42,10 +42,10 @@ module _ (bytes : List ℕ) (n row map : ℕ) (columns rates t : List ℕ) (e : 
   bits-are : (j : ℕ) → j < 8 * mapBytes n → bitAt bytes map j ≡ has j columns
   bits-are = map-forth bytes map (mapBytes n) columns (bytesOf rates ++ t) e′
 
-  read-columns : rowColumns bytes n map ≡ columns
+  read-columns : storedColumns bytes n map ≡ columns
   read-columns = holding-has n (bitAt bytes map) (n - 0) 0 columns (omega arith) rise (λ j a b. bits-are j (omega arith))
 
-  count-is : entries bytes n map ≡ length columns
+  count-is : storedCount bytes n map ≡ length columns
   count-is = ap length read-columns
 
   after-map : drop (map + mapBytes n) bytes ≡ bytesOf rates ++ t
@@ -54,15 +54,13 @@ module _ (bytes : List ℕ) (n row map : ℕ) (columns rates t : List ℕ) (e : 
       ∙ drop-at (mapOf columns (mapBytes n) 0) (bytesOf rates ++ t) (mapBytes n) (length-map-of columns (mapBytes n) 0)
 
   -- a bit that stands is a column of the row, so none is bad
-  not-bad : (j : ℕ) → j < 8 * mapBytes n → badBit bytes n row map j ≡ false
-  not-bad j h = go (has j columns) refl
-    where
-      go : (b : Bool) → has j columns ≡ b → badBit bytes n row map j ≡ false
-      go false q = sym (bad-none bytes n row map j (bits-are j h ∙ q))
-      go true q =
-          let below : (b : Bool) → ltb j n ≡ b → j < n = elim [ true ↦ ltb-true j n | false ↦ λ z. absurd (true≢false (sym q ∙ rising-high rise j (ltb-false j n z))) ] in
-          let other : eqb j row ≡ false = ne-eqb j row (λ z. true≢false (sym q ∙ ap (λ (x : ℕ). has x columns) z ∙ own)) in
-          rw (bits-are j h ∙ q, other) (lt-leb n j (below (ltb j n) refl))
+  all-good : (j : ℕ) → j < 8 * mapBytes n → badBit bytes n row map j ≡ false
+  all-good j h =
+      not-bad bytes n row map j
+      (λ t.
+      let q : has j columns ≡ true = sym (bits-are j h) ∙ t in
+      let below : (b : Bool) → ltb j n ≡ b → j < n = elim [ true ↦ ltb-true j n | false ↦ λ z. absurd (true≢false (sym q ∙ rising-high rise j (ltb-false j n z))) ] in
+      (below (ltb j n) refl, λ z. true≢false (sym q ∙ ap (λ (x : ℕ). has x columns) z ∙ own)))
 
   bytes-are : length bytes ≡ map + mapBytes n + 4 * length columns + length t
   bytes-are =
@@ -78,7 +76,7 @@ module _ (bytes : List ℕ) (n row map : ℕ) (columns rates t : List ℕ) (e : 
       go : (b : Bool) → ltb (firstBadBit bytes n row map) (8 * mapBytes n) ≡ b → 8 * mapBytes n ≤ firstBadBit bytes n row map
       go true b =
           let l = ltb-true _ _ b in
-          absurd (true≢false (sym (first-is (badBit bytes n row map) 0 (8 * mapBytes n) (omega arith) .found l) ∙ not-bad (firstBadBit bytes n row map) l))
+          absurd (true≢false (sym (first-is (badBit bytes n row map) 0 (8 * mapBytes n) (omega arith) .found l) ∙ all-good (firstBadBit bytes n row map) l))
       go false b = ltb-false _ _ b
 
   row-forth : RowRead bytes n row map columns rates t
@@ -89,8 +87,7 @@ module _ (bytes : List ℕ) (n row map : ℕ) (columns rates t : List ℕ) (e : 
         sound =
             sym
             (row-rates bytes n row map (omega (arith, bytes-are)) (firstBadBit bytes n row map) refl none-bad (accepts (rowEnd bytes n map))
-            (sym (rates-sound bytes (rowColumns bytes n map) (map + mapBytes n) (omega (arith, bytes-are, count-is)))));
-        whole = omega (arith, bytes-are, count-is);
+            (sym (rates-sound bytes (storedColumns bytes n map) (map + mapBytes n) (omega (arith, bytes-are, count-is)))));
         rest =
             rw count-is
             (sym (drop-drop (4 * length columns) (map + mapBytes n) bytes) ∙ ap (λ (l : List ℕ). drop (4 * length columns) l) after-map
@@ -143,9 +140,9 @@ module _ (bytes : List ℕ) (n : ℕ) (order : 0 < n) where
       let lr : length (take (b - a) rates) ≡ b - a = length-take-le (b - a) rates (r .rates-in) in
       let g = row-forth bytes n row map (take (b - a) columns) (take (b - a) rates) (rowsBytes n (b ∷ starts) (drop (b - a) columns) (drop (b - a) rates)) e
       order inside (r .rises) (r .own) (lr ∙ sym lc) (take-small 4294967296 (omega arith) (b - a) rates small) in
-      let q : a + entries bytes n map ≡ b = omega (arith, ap length (g .columns-are) ∙ lc, r .order) in
+      let q : a + storedCount bytes n map ≡ b = omega (arith, ap length (g .columns-are) ∙ lc, r .order) in
       let h = rows-forth (row + 1) b starts (drop (b - a) columns) (drop (b - a) rates) (rowEnd bytes n map) f
-      (λ i. rw (getD-drop (b - a) rates i 0) (small (b - a + i))) (g .whole) (g .rest) in
+      (λ i. rw (getD-drop (b - a) rates i 0) (small (b - a + i))) (row-is bytes n row map (rowEnd bytes n map) (g .sound) .whole) (g .rest) in
       record {
         starts-are = ap (λ (l : List ℕ). a ∷ l) (rw q (h .starts-are));
         columns-are = ap₂ (λ (x y : List ℕ). x ++ y) (g .columns-are) (h .columns-are) ∙ take-append-drop (b - a) columns;
@@ -155,82 +152,82 @@ module _ (bytes : List ℕ) (n : ℕ) (order : 0 < n) where
 
 -- ---- a chain that keeps the rules
 
-module _ (n row a b : ℕ) (columns : List ℕ) (inside : b ≤ length columns) (all : (p : ℕ) → a ≤ p → p < b → SoundEntry n columns row a p) where
-  rising : (k p lo : ℕ) → a ≤ p → p + k ≡ b → (p < b → lo ≤ getD columns p 0) → Rising n lo (take k (drop p columns))
+module _ (c : Rows) (row b : ℕ) (inside : b ≤ length (c .columns)) (all : (p : ℕ) → begins c row ≤ p → p < b → SoundEntry c row p) where
+  rising : (k p lo : ℕ) → begins c row ≤ p → p + k ≡ b → (p < b → lo ≤ columnAt c p) → Rising (c .order) lo (take k (drop p (c .columns)))
   rising zero p lo s e h = none
   rising (suc k) p lo s e h =
       let t = all p s (omega arith) in
-      rw (drop-cons columns p 0 (omega arith), ← add-one p)
+      rw (drop-cons (c .columns) p 0 (omega arith), ← add-one p)
       (more (h (omega arith)) (t .below)
-      (rising k (p + 1) (getD columns p 0 + 1) (omega arith) (omega arith)
+      (rising k (p + 1) (columnAt c p + 1) (omega arith) (omega arith)
       (λ l.
       let v : p + 1 - 1 ≡ p = omega arith in
-      let u : getD columns p 0 < getD columns (p + 1) 0 = rw v at (all (p + 1) (omega arith) l .above (omega arith)) in
+      let u : columnAt c p < columnAt c (p + 1) = rw v at (all (p + 1) (omega arith) l .above (omega arith)) in
       omega arith)))
 
-  absent : (k p : ℕ) → a ≤ p → p + k ≡ b → has row (take k (drop p columns)) ≡ false
+  absent : (k p : ℕ) → begins c row ≤ p → p + k ≡ b → has row (take k (drop p (c .columns))) ≡ false
   absent zero p s e = refl
   absent (suc k) p s e =
-      rw (drop-cons columns p 0 (omega arith), ← add-one p)
-      (has-there row (getD columns p 0) (take k (drop (p + 1) columns)) (all p s (omega arith) .not-row) ∙ absent k (p + 1) (omega arith) (omega arith))
+      rw (drop-cons (c .columns) p 0 (omega arith), ← add-one p)
+      (has-there row (columnAt c p) (take k (drop (p + 1) (c .columns))) (all p s (omega arith) .not-row) ∙ absent k (p + 1) (omega arith) (omega arith))
 
-module _ (n : ℕ) (starts columns rates : List ℕ) (g : Sound n starts columns rates) where
-  row-kept : (row : ℕ) → row < n
-      → RowKept n row (getD starts row 0) (getD starts (row + 1) 0) (drop (getD starts row 0) columns) (drop (getD starts row 0) rates)
+module _ {c : Rows} (g : Sound c) where
+  row-kept : (row : ℕ) → row < c .order
+      → RowKept (c .order) row (begins c row) (ends c row) (drop (begins c row) (c .columns)) (drop (begins c row) (c .rates))
   row-kept row l =
-      let a = getD starts row 0 in
-      let b = getD starts (row + 1) 0 in
+      let a = begins c row in
+      let b = ends c row in
       let o = g .starts-rule .rises row l in
       let i = start-within (g .starts-rule) (row + 1) (omega arith) in
-      let all : (p : ℕ) → getD starts row 0 ≤ p → p < getD starts (row + 1) 0 → SoundEntry n columns row (getD starts row 0) p =
-      λ p. g .columns-rule .entry row p l in
+      let all : (p : ℕ) → begins c row ≤ p → p < ends c row → SoundEntry c row p = λ p. g .columns-rule .entry row p l in
       record {
         order = o;
-        columns-in = omega (arith, length-drop (getD starts row 0) columns, o, i);
-        rates-in = omega (arith, length-drop (getD starts row 0) rates, o, i, g .lengths);
-        rises = rising n row a b columns i all (b - a) a 0 (omega arith) (omega arith) (λ z. omega arith);
-        own = absent n row a b columns i all (b - a) a (omega arith) (omega arith);
+        columns-in = omega (arith, length-drop (begins c row) (c .columns), o, i);
+        rates-in = omega (arith, length-drop (begins c row) (c .rates), o, i, g .lengths);
+        rises = rising c row b i all (b - a) a 0 (omega arith) (omega arith) (λ z. omega arith);
+        own = absent c row b i all (b - a) a (omega arith) (omega arith);
       }
 
-  kept-from : (k row : ℕ) → row + k ≡ n → RowsKept n row (drop row starts) (drop (getD starts row 0) columns) (drop (getD starts row 0) rates)
+  kept-from : (k row : ℕ) → row + k ≡ c .order
+      → RowsKept (c .order) row (drop row (c .starts)) (drop (begins c row) (c .columns)) (drop (begins c row) (c .rates))
   kept-from zero row e =
-      let q : row ≡ n = omega arith in
-      let z : getD starts row 0 ≡ length columns = rw q (g .starts-rule .last) in
-      rw (starts-last n starts (g .starts-rule .count) row q)
-      (drop-of-length-le columns {i = getD starts row 0} (omega arith), drop-of-length-le rates {i = getD starts row 0} (omega (arith, g .lengths)))
+      let q : row ≡ c .order = omega arith in
+      let z : begins c row ≡ length (c .columns) = rw q (g .starts-rule .last) in
+      rw (starts-last (c .order) (c .starts) (g .starts-rule .count) row q)
+      (drop-of-length-le (c .columns) {i = begins c row} (omega arith), drop-of-length-le (c .rates) {i = begins c row} (omega (arith, g .lengths)))
   kept-from (suc k) row e =
-      let l : row < n = omega arith in
+      let l : row < c .order = omega arith in
       let o = g .starts-rule .rises row l in
-      let c = g .starts-rule .count in
-      let ih = rw (starts-next n starts c row l) at (kept-from k (row + 1) (omega arith)) in
-      rw (starts-two n starts c row l) (row-kept row l, rw (drop-part starts row o columns, drop-part starts row o rates) ih)
+      let count = g .starts-rule .count in
+      let ih = rw (starts-next (c .order) (c .starts) count row l) at (kept-from k (row + 1) (omega arith)) in
+      rw (starts-two (c .order) (c .starts) count row l) (row-kept row l, rw (drop-part c row o (c .columns), drop-part c row o (c .rates)) ih)
 
 from-zero : (n : ℕ) (t columns rates : List ℕ) → 0 < n → length t ≡ n → RowsKept n 0 (0 ∷ t) columns rates → ((i : ℕ) → getD rates i 0 < 4294967296)
-    → RowsRead (fileOf n (0 ∷ t) columns rates) n n 0 1 0 (0 ∷ t) columns rates
+    → RowsRead (fileOf (rows n (0 ∷ t) columns rates)) n n 0 1 0 (0 ∷ t) columns rates
 from-zero n t columns rates o e f small =
-    subst (λ (k : ℕ). RowsRead (fileOf n (0 ∷ t) columns rates) n k 0 1 0 (0 ∷ t) columns rates) e
-    (rows-forth (fileOf n (0 ∷ t) columns rates) n o 0 0 t columns rates 1 f small (omega arith) refl)
+    subst (λ (k : ℕ). RowsRead (fileOf (rows n (0 ∷ t) columns rates)) n k 0 1 0 (0 ∷ t) columns rates) e
+    (rows-forth (fileOf (rows n (0 ∷ t) columns rates)) n o 0 0 t columns rates 1 f small (omega arith) refl)
 
 -- the file of a chain holds that chain, and is accepted
-pub record Holds (bytes : List ℕ) (starts columns rates : List ℕ) : Type 0 where
-  pub starts-are : startsOf bytes ≡ starts
-  pub columns-are : columnsOf bytes ≡ columns
-  pub rates-are : ratesOf bytes ≡ rates
-  pub accepted : fileChecked bytes ≡ accepts (length columns)
+pub record Holds (bytes : List ℕ) (c : Rows) : Type 0 where
+  pub chain-is : chainOf bytes ≡ c
+  pub accepted : fileChecked bytes ≡ accepts (length (c .columns))
 
-pub file-forth : (n : ℕ) (starts columns rates : List ℕ) → Sound n starts columns rates → ((i : ℕ) → getD rates i 0 < 4294967296)
-    → Holds (fileOf n starts columns rates) starts columns rates
-file-forth n starts columns rates g small =
+pub file-forth : (c : Rows) → Sound c → ((i : ℕ) → getD (c .rates) i 0 < 4294967296) → Holds (fileOf c) c
+file-forth c g small =
     let s = g .starts-rule in
-    let q : starts ≡ 0 ∷ drop 1 starts = drop-cons starts 0 0 (omega (arith, s .count)) ∙ ap (λ (x : ℕ). x ∷ drop 1 starts) (s .first) in
-    let f : RowsKept n 0 starts columns rates = rw (s .first) at (kept-from n starts columns rates g n 0 (omega arith)) in
-    let r : RowsRead (fileOf n starts columns rates) n n 0 1 0 starts columns rates =
-    subst (λ (l : List ℕ). RowsRead (fileOf n l columns rates) n n 0 1 0 l columns rates) (sym q)
-    (from-zero n (drop 1 starts) columns rates (omega (arith, g .order .low)) (omega (arith, length-drop 1 starts, s .count))
-    (subst (λ (l : List ℕ). RowsKept n 0 l columns rates) q f) small) in
+    let n = c .order in
+    let q : c .starts ≡ 0 ∷ drop 1 (c .starts) =
+    drop-cons (c .starts) 0 0 (omega (arith, s .count)) ∙ ap (λ (x : ℕ). x ∷ drop 1 (c .starts)) (s .first) in
+    let f : RowsKept (c .order) 0 (c .starts) (c .columns) (c .rates) = rw (s .first) at (kept-from g (c .order) 0 (omega arith)) in
+    let r : RowsRead (fileOf c) (c .order) (c .order) 0 1 0 (c .starts) (c .columns) (c .rates) =
+    subst (λ (l : List ℕ). RowsRead (fileOf (rows n l (c .columns) (c .rates))) n n 0 1 0 l (c .columns) (c .rates)) (sym q)
+    (from-zero n (drop 1 (c .starts)) (c .columns) (c .rates) (omega (arith, g .order .low)) (omega (arith, length-drop 1 (c .starts), s .count))
+    (subst (λ (l : List ℕ). RowsKept n 0 l (c .columns) (c .rates)) q f) small) in
     record {
-      starts-are = r .starts-are;
-      columns-are = r .columns-are;
-      rates-are = r .rates-are;
-      accepted = sym (file-rows (fileOf n starts columns rates) (omega arith) (order-of n (g .order)) (accepts (length columns)) (ap accepts (sym (zero-add (length columns))) ∙ sym (r .sound)));
+      chain-is = λ i. rows n (r .starts-are i) (r .columns-are i) (r .rates-are i);
+      accepted =
+          sym
+          (file-rows (fileOf c) (omega arith) (order-of n (g .order)) (accepts (length (c .columns)))
+          (ap accepts (sym (zero-add (length (c .columns)))) ∙ sym (r .sound)));
     }

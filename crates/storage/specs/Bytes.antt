@@ -5,6 +5,7 @@ use mathlib.Core.Bool.{Bool, cond}
 use mathlib.Core.List.{List, [], _∷_, _++_}
 use lib.Dec.{eqb}
 use lib.ListN.{length, getD}
+use Rattle.chain.specs.Rows.{Rows, rows}
 
 -- "a bit map of n / 8 bytes rounded up"
 abbrev pub mapBytes : ℕ → ℕ
@@ -23,53 +24,50 @@ holding test (suc k) i = cond (test i) (i ∷ holding test k (i + 1)) (holding t
 abbrev pub columnsFrom : List ℕ → ℕ → ℕ → ℕ → List ℕ
 columnsFrom bytes n map j = holding (bitAt bytes map) (n - j) j
 
-abbrev pub rowColumns : List ℕ → ℕ → ℕ → List ℕ
-rowColumns bytes n map = columnsFrom bytes n map 0
+abbrev pub storedColumns : List ℕ → ℕ → ℕ → List ℕ
+storedColumns bytes n map = columnsFrom bytes n map 0
 
 -- the number of entries of a row
-abbrev pub entries : List ℕ → ℕ → ℕ → ℕ
-entries bytes n map = length (rowColumns bytes n map)
+abbrev pub storedCount : List ℕ → ℕ → ℕ → ℕ
+storedCount bytes n map = length (storedColumns bytes n map)
 
 -- "four bytes each, low byte first"
-unfoldable pub rateAt : List ℕ → ℕ → ℕ
-rateAt bytes place =
+unfoldable pub storedRate : List ℕ → ℕ → ℕ
+storedRate bytes place =
     getD bytes place 0 + 256 * getD bytes (place + 1) 0 + 65536 * getD bytes (place + 2) 0 + 16777216 * getD bytes (place + 3) 0
 
 -- k rates from a place on
 abbrev pub ratesAt : List ℕ → ℕ → ℕ → List ℕ
 ratesAt bytes zero place = []
-ratesAt bytes (suc k) place = rateAt bytes place ∷ ratesAt bytes k (place + 4)
+ratesAt bytes (suc k) place = storedRate bytes place ∷ ratesAt bytes k (place + 4)
 
 -- "then only the rates whose bit stands, columns rising"
-abbrev pub rowRates : List ℕ → ℕ → ℕ → List ℕ
-rowRates bytes n map = ratesAt bytes (entries bytes n map) (map + mapBytes n)
+abbrev pub storedRates : List ℕ → ℕ → ℕ → List ℕ
+storedRates bytes n map = ratesAt bytes (storedCount bytes n map) (map + mapBytes n)
 
 -- the place after a row, at which the map of the next one begins
 abbrev pub rowEnd : List ℕ → ℕ → ℕ → ℕ
-rowEnd bytes n map = map + mapBytes n + 4 * entries bytes n map
+rowEnd bytes n map = map + mapBytes n + 4 * storedCount bytes n map
 
 -- the starts, columns and rates of the k rows from a map on, where p entries come before them
 abbrev pub startsIn : List ℕ → ℕ → ℕ → ℕ → ℕ → List ℕ
 startsIn bytes n zero map p = p ∷ []
-startsIn bytes n (suc k) map p = p ∷ startsIn bytes n k (rowEnd bytes n map) (p + entries bytes n map)
+startsIn bytes n (suc k) map p = p ∷ startsIn bytes n k (rowEnd bytes n map) (p + storedCount bytes n map)
 
 abbrev pub columnsIn : List ℕ → ℕ → ℕ → ℕ → List ℕ
 columnsIn bytes n zero map = []
-columnsIn bytes n (suc k) map = rowColumns bytes n map ++ columnsIn bytes n k (rowEnd bytes n map)
+columnsIn bytes n (suc k) map = storedColumns bytes n map ++ columnsIn bytes n k (rowEnd bytes n map)
 
 abbrev pub ratesIn : List ℕ → ℕ → ℕ → ℕ → List ℕ
 ratesIn bytes n zero map = []
-ratesIn bytes n (suc k) map = rowRates bytes n map ++ ratesIn bytes n k (rowEnd bytes n map)
+ratesIn bytes n (suc k) map = storedRates bytes n map ++ ratesIn bytes n k (rowEnd bytes n map)
 
--- the chain that a file holds: "one byte n", then n rows
+-- "one byte n"
 abbrev pub orderOf : List ℕ → ℕ
 orderOf bytes = getD bytes 0 0
 
-abbrev pub startsOf : List ℕ → List ℕ
-startsOf bytes = startsIn bytes (orderOf bytes) (orderOf bytes) 1 0
-
-abbrev pub columnsOf : List ℕ → List ℕ
-columnsOf bytes = columnsIn bytes (orderOf bytes) (orderOf bytes) 1
-
-abbrev pub ratesOf : List ℕ → List ℕ
-ratesOf bytes = ratesIn bytes (orderOf bytes) (orderOf bytes) 1
+-- the chain that a file holds: its order, then so many rows
+abbrev pub chainOf : List ℕ → Rows
+chainOf bytes =
+    let n = orderOf bytes in
+    rows n (startsIn bytes n n 1 0) (columnsIn bytes n n 1) (ratesIn bytes n n 1)

@@ -1,13 +1,10 @@
--- Document 01, "Stored chains": the file of a chain, and what a writing answers and leaves.
-use Prim.Native.Nat.{ℕ, zero, suc, _+_, _-_, _*_, _/_, _%_, _<_}
+-- Document 01, "Stored chains": the file of a chain.
+use Prim.Native.Nat.{ℕ, zero, suc, _+_, _-_, _*_, _/_, _%_}
 use mathlib.Core.Bool.{Bool, true, false, cond}
 use mathlib.Core.List.{List, [], _∷_, _++_}
-use mathlib.Core.Path.{_≡_}
-use lib.Dec.{eqb, leb}
-use lib.ListN.{length, getD, take, drop}
-use Rattle.chain.specs.Rules.{checked}
-use Rattle.refusal.specs.Table.{Verdict, accepts, refuses, of-chain, numbered, verdict, andThen, after}
-use Rattle.refusal.specs.declared.Outcome.{Outcome}
+use lib.Dec.{eqb}
+use lib.ListN.{take, drop}
+use Rattle.chain.specs.Rows.{Rows}
 use Rattle.storage.specs.Bytes.{mapBytes}
 
 abbrev pub bit : Bool → ℕ
@@ -48,21 +45,9 @@ rowsBytes n (a ∷ b ∷ starts) columns rates =
     rowBytes n (take (b - a) columns) (take (b - a) rates) ++ rowsBytes n (b ∷ starts) (drop (b - a) columns) (drop (b - a) rates)
 
 -- the file of a chain
-abbrev pub fileOf : ℕ → List ℕ → List ℕ → List ℕ → List ℕ
-fileOf n starts columns rates = n ∷ rowsBytes n starts columns rates
+abbrev pub fileOf : Rows → List ℕ
+fileOf c = c .order ∷ rowsBytes (c .order) (c .starts) (c .columns) (c .rates)
 
 -- "a file has 1 + n × (map bytes) + 4 × (entries) bytes"
 abbrev pub fileSize : ℕ → ℕ → ℕ
 fileSize n entries = 1 + n * mapBytes n + 4 * entries
-
--- "the writer first checks the chain by 1 to 4, then its buffer by 5": the number of bytes
-unfoldable pub writeVerdict : ℕ → List ℕ → List ℕ → List ℕ → ℕ → Verdict ℕ
-writeVerdict n starts columns rates room =
-    andThen (checked n starts columns rates)
-    (λ found. cond (leb (fileSize n found) room) (accepts (fileSize n found)) (refuses of-chain (numbered 5 0 0)))
-
--- what a writing answers, and the lent bytes at its exit; rates-fit is what lent rates are anyway
-pub record Written (n : ℕ) (starts columns rates out : List ℕ) (r : Outcome) (out′ : List ℕ) : Type 0 where
-  pub rates-fit : (i : ℕ) → getD rates i 0 < 4294967296
-  pub answer : verdict r ≡ writeVerdict n starts columns rates (length out)
-  pub out-is : out′ ≡ after (verdict r) out (fileOf n starts columns rates)

@@ -1,6 +1,7 @@
 // Reads files, each after its length in two bytes, low byte first, and prints a line on each: the order and the number of
-// entries of the chain and whether writing it gives the same bytes again, or the refusal.
-ghost use Prim.Native.Nat.{_<_};
+// entries of the chain and whether writing it gives the same bytes again, or the refusal. A second line says the same where less
+// room is lent than many a chain needs.
+use framed::Next;
 use libc::STDIN_FILENO;
 use libc::STDOUT_FILENO;
 use refusal::Outcome;
@@ -41,18 +42,27 @@ fn begins(buffer: &[u8], bytes: &[u8]) -> bool {
 }
 
 // Writes a chain that was read, and says whether the bytes are those it was read from.
-fn write_back(bytes: &[u8], order: usize, starts: &[u32], columns: &[u32], rates: &[u32]) {
-    let mut out = [0u8; 16641];
-    match storage::write(order, starts, columns, rates, &mut out) {
+fn write_back(
+    bytes: &[u8],
+    order: usize,
+    starts: &[u32],
+    columns: &[u32],
+    rates: &[u32],
+    out: &mut [u8],
+) {
+    match storage::write(order, starts, columns, rates, out) {
         Outcome::Done(size) => {
-            if size == bytes.len() && begins(&out, bytes) {
+            if size == bytes.len() && begins(out, bytes) {
                 io::write_all(STDOUT_FILENO, b" same");
             } else {
                 io::write_all(STDOUT_FILENO, b" other");
             }
             newline();
         }
-        Outcome::Refused(refusal) => print_refusal(refusal),
+        Outcome::Refused(refusal) => {
+            io::write_all(STDOUT_FILENO, b" ");
+            print_refusal(refusal);
+        }
     }
 }
 
@@ -63,6 +73,7 @@ fn print_chain(
     starts: &[u32],
     columns: &[u32],
     rates: &[u32],
+    out: &mut [u8],
 ) {
     io::write_all(STDOUT_FILENO, b"chain");
     print_number(order);
@@ -74,72 +85,64 @@ fn print_chain(
             &starts[..order + 1],
             &columns[..entries],
             &rates[..entries],
+            out,
         );
     }
 }
 
-fn report(bytes: &[u8]) {
-    let mut starts = [0u32; 65];
-    let mut columns = [0u32; 4032];
-    let mut rates = [0u32; 4032];
-    match storage::read(bytes, &mut starts, &mut columns, &mut rates) {
+// One line: what reading into these slices gives, and writing into that buffer.
+fn print_line(
+    bytes: &[u8],
+    starts: &mut [u32],
+    columns: &mut [u32],
+    rates: &mut [u32],
+    out: &mut [u8],
+) {
+    match storage::read(bytes, starts, columns, rates) {
         Reading::Chain { order, entries } => print_chain(
             bytes,
             order,
             entries,
-            &starts,
-            &columns,
-            &rates,
+            starts,
+            columns,
+            rates,
+            out,
         ),
         Reading::Refused(refusal) => print_refusal(refusal),
     }
 }
 
-fn wide(x: u8) -> usize
-    ensures { λ r. ⌜ r < 256 ⌝ }
-{
-    x as usize
+// With room for every chain.
+fn with_room(bytes: &[u8]) {
+    let mut starts = [0u32; 65];
+    let mut columns = [0u32; 4032];
+    let mut rates = [0u32; 4032];
+    let mut out = [0u8; 16641];
+    print_line(bytes, &mut starts, &mut columns, &mut rates, &mut out);
 }
 
-// The length of the next file; more than a file may have where the input ends.
-fn next_length() -> usize {
-    let mut head = [0u8; 2];
-    let n = io::read_full(STDIN_FILENO, &mut head);
-    if n < 2 {
-        return 16643;
-    }
-    wide(head[0]) + 256 * wide(head[1])
+// With room for up to 8 states, 20 columns, 12 rates and a file of 40 bytes.
+fn with_less(bytes: &[u8]) {
+    let mut starts = [0u32; 9];
+    let mut columns = [0u32; 20];
+    let mut rates = [0u32; 12];
+    let mut out = [0u8; 40];
+    print_line(bytes, &mut starts, &mut columns, &mut rates, &mut out);
 }
 
-// Fills the first places of the buffer, and says whether the input had so many bytes.
-fn fetch(buffer: &mut [u8], length: usize) -> bool {
-    if buffer.len() < length {
-        return false;
-    }
-    let n = io::read_full(STDIN_FILENO, &mut buffer[..length]);
-    n == length
-}
-
-fn report_first(buffer: &[u8], length: usize) {
-    if length <= buffer.len() {
-        report(&buffer[..length]);
-    }
-}
-
-// Reads and reports one file, and says whether there was one.
-fn next_file(buffer: &mut [u8]) -> bool {
-    let length = next_length();
-    let found = fetch(buffer, length);
-    if found {
-        report_first(buffer, length);
-    }
-    found
+fn report(bytes: &[u8]) {
+    with_room(bytes);
+    with_less(bytes);
 }
 
 // A proved loop has to end, so it counts its turns down from a number that no input uses up.
 fn all_files(buffer: &mut [u8]) {
     let mut turns = u64::MAX;
-    while 0 < turns && next_file(buffer) {
+    while 0 < turns {
+        let Next::File(n) = framed::fetch(STDIN_FILENO, buffer) else {
+            return;
+        };
+        report(&buffer[..n]);
         turns -= 1;
     }
 }

@@ -1,3 +1,3 @@
 -- The table is right, and what the demands say of one of its chains.
 pub mod Cases
-pub mod Instance
+pub mod CasesDemands

@@ -9,26 +9,18 @@ use Rattle.refusal.specs.Table.{Verdict, accepts, refuses, of-chain, of-bytes, 
 use Rattle.refusal.specs.declared.Line.{Line}
 use Rattle.scaled.specs.declared.Scaled.{Scaled}
 use Rattle.scaled.specs.Scaled.{rateOf}
-use Rattle.markov.specs.Chain.{Rates}
 use Rattle.markov.specs.Weight.{weight}
 use Rattle.markov.specs.Count.{boundCount}
+use Rattle.chain.specs.Rows.{Rows, rows}
 use Rattle.chain.specs.Meaning.{rateIn}
-use Rattle.storage.specs.Bytes.{orderOf, startsOf, columnsOf, ratesOf}
+use Rattle.storage.specs.Bytes.{chainOf}
 use Rattle.storage.specs.Reading.{readVerdict}
 use Rattle.storage.specs.File.{fileOf}
-use Rattle.solver.specs.Solve.{roomFor, solved, weightsOf, sharesOf, table}
+use Rattle.solver.specs.Lent.{enough}
+use Rattle.solver.specs.Solve.{solved, weightsOf, sharesOf}
+use Rattle.basics.specs.Lists.{table}
 
--- ---- chains and numbers
-
--- an order and the three slices of a chain in rows
-pub record Chain : Type 0 where
-  pub order : ℕ
-  pub starts : List ℕ
-  pub columns : List ℕ
-  pub rates : List ℕ
-
-abbrev pub chain : ℕ → List ℕ → List ℕ → List ℕ → Chain
-chain order starts columns rates = record { order = order; starts = starts; columns = columns; rates = rates }
+-- ---- numbers
 
 -- the scaled number (m, e), and the exponent -k
 abbrev pub scaled : ℕ → ℤ → Scaled
@@ -39,35 +31,30 @@ minus k = negℤ (pos k)
 
 -- ---- what is computed of a chain
 
-abbrev pub rate : Chain → Rates
-rate c = rateIn (c .starts) (c .columns) (c .rates)
-
 -- the answer of solving, with just the needed places lent
-abbrev pub answer : Chain → Verdict ℕ
-answer c =
-    solved (c .order) (c .starts) (c .columns) (c .rates)
-    (roomFor (c .order) (c .order * c .order) (c .order * c .order) (c .order) (c .order) (c .order) (c .order))
+abbrev pub answer : Rows → Verdict ℕ
+answer c = solved c (enough (c .order) (c .order * c .order) (c .order * c .order) (c .order) (c .order) (c .order) (c .order))
 
-abbrev pub exactWeights : Chain → List ℕ
-exactWeights c = table (c .order) (weight (c .order) (rate c))
+abbrev pub exactWeights : Rows → List ℕ
+exactWeights c = table (c .order) (weight (c .order) (rateIn c))
 
-abbrev pub weights : Chain → List Scaled
-weights c = table (c .order) (weightsOf (c .order) (c .starts) (c .columns) (c .rates))
+abbrev pub computedWeights : Rows → List Scaled
+computedWeights c = table (c .order) (weightsOf c)
 
-abbrev pub shares : Chain → List Scaled
-shares c = table (c .order) (sharesOf (c .order) (c .starts) (c .columns) (c .rates))
+abbrev pub computedShares : Rows → List Scaled
+computedShares c = table (c .order) (sharesOf c)
 
 -- ---- what a row says
 
 -- this chain is accepted with this bound count; its exact weights, its computed weights and its shares are these
-pub record Solves (c : Chain) (bound : ℕ) (exact : List ℕ) (computed taken : List Scaled) : Type 0 where
+pub record Solves (c : Rows) (bound : ℕ) (exact : List ℕ) (computed taken : List Scaled) : Type 0 where
   pub accepted : answer c ≡ accepts bound
   pub exact-weights : exactWeights c ≡ exact
-  pub weights-are : weights c ≡ computed
-  pub shares-are : shares c ≡ taken
+  pub weights-are : computedWeights c ≡ computed
+  pub shares-are : computedShares c ≡ taken
 
 -- solving refuses this chain, with this number and these places
-abbrev pub Refuses : Chain → Line → Type 0
+abbrev pub Refuses : Rows → Line → Type 0
 Refuses c line = answer c ≡ refuses of-chain line
 
 -- reading refuses these bytes, with this number and these places, whatever the lengths of the lent slices
@@ -75,36 +62,36 @@ abbrev pub Unreadable : List ℕ → Line → Type 0
 Unreadable bytes line = (starts columns rates : ℕ) → readVerdict bytes starts columns rates ≡ refuses of-bytes line
 
 -- these bytes are read as this chain, into slices of just the needed lengths, and they are its file
-pub record Stores (bytes : List ℕ) (c : Chain) : Type 0 where
+pub record Stores (bytes : List ℕ) (c : Rows) : Type 0 where
   pub accepted : readVerdict bytes (c .order + 1) (length (c .columns)) (length (c .rates)) ≡ accepts (c .order, length (c .columns))
-  pub chain-is : chain (orderOf bytes) (startsOf bytes) (columnsOf bytes) (ratesOf bytes) ≡ c
-  pub file-is : fileOf (c .order) (c .starts) (c .columns) (c .rates) ≡ bytes
+  pub chain-is : chainOf bytes ≡ c
+  pub file-is : fileOf c ≡ bytes
 
 -- ---- the chains
 
 -- "n = 1, no entries"
-abbrev pub chain1 : Chain
-chain1 = chain 1 (0 ∷ 0 ∷ []) [] []
+abbrev pub chain1 : Rows
+chain1 = rows 1 (0 ∷ 0 ∷ []) [] []
 
 -- "n = 2, 0 to 1 rate 3, 1 to 0 rate 1"
-abbrev pub chain2 : Chain
-chain2 = chain 2 (0 ∷ 1 ∷ 2 ∷ []) (1 ∷ 0 ∷ []) (3 ∷ 1 ∷ [])
+abbrev pub chain2 : Rows
+chain2 = rows 2 (0 ∷ 1 ∷ 2 ∷ []) (1 ∷ 0 ∷ []) (3 ∷ 1 ∷ [])
 
 -- "Ring 0 to 1 rate 2, 1 to 2 rate 4, 2 to 0 rate 8"
-abbrev pub chain3 : Chain
-chain3 = chain 3 (0 ∷ 1 ∷ 2 ∷ 3 ∷ []) (1 ∷ 2 ∷ 0 ∷ []) (2 ∷ 4 ∷ 8 ∷ [])
+abbrev pub chain3 : Rows
+chain3 = rows 3 (0 ∷ 1 ∷ 2 ∷ 3 ∷ []) (1 ∷ 2 ∷ 0 ∷ []) (2 ∷ 4 ∷ 8 ∷ [])
 
 -- "n = 2, 0 to 1 rate 1, 1 to 0 rate 4294967295"
-abbrev pub chain4 : Chain
-chain4 = chain 2 (0 ∷ 1 ∷ 2 ∷ []) (1 ∷ 0 ∷ []) (1 ∷ 4294967295 ∷ [])
+abbrev pub chain4 : Rows
+chain4 = rows 2 (0 ∷ 1 ∷ 2 ∷ []) (1 ∷ 0 ∷ []) (1 ∷ 4294967295 ∷ [])
 
 -- "n = 2, 0 to 1 rate 0, 1 to 0 rate 5"
-abbrev pub chain6 : Chain
-chain6 = chain 2 (0 ∷ 1 ∷ 2 ∷ []) (1 ∷ 0 ∷ []) (0 ∷ 5 ∷ [])
+abbrev pub chain6 : Rows
+chain6 = rows 2 (0 ∷ 1 ∷ 2 ∷ []) (1 ∷ 0 ∷ []) (0 ∷ 5 ∷ [])
 
 -- "n = 3, 0 to 1 and 1 to 0 and 2 to 0, all rate 1"
-abbrev pub chain7 : Chain
-chain7 = chain 3 (0 ∷ 1 ∷ 2 ∷ 3 ∷ []) (1 ∷ 0 ∷ 0 ∷ []) (1 ∷ 1 ∷ 1 ∷ [])
+abbrev pub chain7 : Rows
+chain7 = rows 3 (0 ∷ 1 ∷ 2 ∷ 3 ∷ []) (1 ∷ 0 ∷ 0 ∷ []) (1 ∷ 1 ∷ 1 ∷ [])
 
 -- "02 02 03 00 00 00 01 01 00 00 00", whose printed lines case 2 refers to
 abbrev pub printed : List ℕ

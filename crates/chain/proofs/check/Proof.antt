@@ -1,29 +1,23 @@
 use mathlib.Core.Path.{refl, _∙_, sym}
 use borrow.Author.Needs.{needs}
 use borrow.Author.Tests.{not-true, not-false, eq-eqb, ne-eqb}
-use Rattle.refusal.proofs.FirstLaws.{by-true, by-false}
+use Rattle.basics.proofs.BoolLaws.{by-true, by-false}
 use Rattle.chain.specs.Rules.{checked}
 use Rattle.chain.proofs.RulesLaws.{order-held}
+use Rattle.chain.proofs.Reading.{check-means}
 use Rattle.chain.proofs.check.Statement.{statement}
 use Rattle.chain.proofs.check.Tie as tie
-use Rattle.chain.proofs.check.Reads as reads
-use Rattle.chain.proofs.check.Lts as lts
-use Rattle.chain.proofs.check_columns.Reads as check-columns-reads
-use Rattle.chain.proofs.order_sound.Reads as order-sound-reads
-use Rattle.chain.proofs.starts_sound.Reads as starts-sound-reads
-
-order-sound-requires : tie.Need-order-sound-requires
-order-sound-requires c κs = search needs
 
 returns : tie.Need-returns
 unfolding checked
-returns c = by-false _ _ (sym (c .before .order-sound .ensures) ∙ not-true _ (c .if1 .taken)) refl
+returns c = check-means _ (by-false _ _ (sym (c .before .order-sound .ensures) ∙ not-true _ (c .if1 .taken)) refl)
 
 returns-2 : tie.Need-returns-2
 unfolding checked
 returns-2 c =
-    by-true _ _ (sym (c .before .before .order-sound .ensures) ∙ not-false _ (c .before .if1 .left))
-    (by-false _ _ (ne-eqb _ _ (c .if2 .taken)) refl)
+    check-means _
+    (by-true _ _ (sym (c .before .before .order-sound .ensures) ∙ not-false _ (c .before .if1 .left))
+    (by-false _ _ (ne-eqb _ _ (c .if2 .taken)) refl))
 
 starts-sound-requires : tie.Need-starts-sound-requires
 starts-sound-requires c κs = order-held _ (sym (c .before .before .order-sound .ensures) ∙ not-false _ (c .before .if1 .left))
@@ -31,9 +25,10 @@ starts-sound-requires c κs = order-held _ (sym (c .before .before .order-sound 
 returns-3 : tie.Need-returns-3
 unfolding checked
 returns-3 c =
-    by-true _ _ (sym (c .before .before .before .before .order-sound .ensures) ∙ not-false _ (c .before .before .before .if1 .left))
+    check-means _
+    (by-true _ _ (sym (c .before .before .before .before .order-sound .ensures) ∙ not-false _ (c .before .before .before .if1 .left))
     (by-true _ _ (eq-eqb _ _ (c .before .before .if2 .left))
-    (by-false _ _ (sym (c .before .starts-sound .ensures) ∙ not-true _ (c .if3 .taken)) refl))
+    (by-false _ _ (sym (c .before .starts-sound .ensures) ∙ not-true _ (c .if3 .taken)) refl)))
 
 check-columns-requires : tie.Need-check-columns-requires
 check-columns-requires c κs = (
@@ -44,19 +39,14 @@ check-columns-requires c κs = (
 returns-4 : tie.Need-returns-4
 unfolding checked
 returns-4 c =
-    by-true _ _
+    check-means _
+    (by-true _ _
     (sym (c .before .before .before .before .before .order-sound .ensures) ∙ not-false _ (c .before .before .before .before .if1 .left))
     (by-true _ _ (eq-eqb _ _ (c .before .before .before .if2 .left))
-    (by-true _ _ (sym (c .before .before .starts-sound .ensures) ∙ not-false _ (c .before .if3 .left)) (c .check-columns .ensures)))
+    (by-true _ _ (sym (c .before .before .starts-sound .ensures) ∙ not-false _ (c .before .if3 .left)) (c .check-columns .ensures _))))
 
 pub check-spec : {M : Type 1} → statement M
 check-spec =
     tie.close
     (tie.spec
-    order-sound-requires
-    returns
-    returns-2
-    starts-sound-requires
-    returns-3
-    check-columns-requires
-    returns-4)
+    (λ c κs. search needs) returns returns-2 starts-sound-requires returns-3 check-columns-requires returns-4)

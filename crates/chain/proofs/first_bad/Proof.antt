@@ -1,14 +1,11 @@
 use Prim.Native.Nat.{_≤_, _-_}
 use mathlib.Core.Path.{_≡_, refl, _∙_, sym}
 use borrow.Author.Needs.{needs}
-use Rattle.refusal.specs.First.{first}
-use Rattle.refusal.proofs.FirstLaws.{first-end, first-here, first-next}
+use Rattle.basics.specs.First.{first}
+use Rattle.basics.proofs.FirstLaws.{first-end, first-here, first-next}
 use Rattle.chain.specs.Rules.{entryBad}
 use Rattle.chain.proofs.first_bad.Statement.{statement}
 use Rattle.chain.proofs.first_bad.Tie as tie
-use Rattle.chain.proofs.first_bad.Reads as reads
-use Rattle.chain.proofs.first_bad.Lts as lts
-use Rattle.chain.proofs.entry_bad.Reads as entry-bad-reads
 
 abbrev Inv-loop : tie.InvT-loop
 Inv-loop n columns row begin end place₀ place =
@@ -20,19 +17,10 @@ abbrev μ-loop : tie.MeasureT-loop
 loop-holds : tie.Need-loop-holds Inv-loop μ-loop
 loop-holds c = (search needs, search needs, refl)
 
-entry-bad-requires : tie.Need-entry-bad-requires Inv-loop μ-loop
-entry-bad-requires c κs = search needs
-
 returns : tie.Need-returns Inv-loop μ-loop
 returns c =
     sym (c .before .before .before .loop .inv .2
     ∙ first-here _ _ _ (c .before .before .loop-test .taken) (sym (c .before .entry-bad .ensures) ∙ c .if1 .taken))
-
-add-place : tie.Need-add-place Inv-loop μ-loop
-add-place c = search needs
-
-loop-less : tie.Need-loop-less Inv-loop μ-loop
-loop-less c = search needs
 
 loop-again : tie.Need-loop-again Inv-loop μ-loop
 loop-again c = (
@@ -49,12 +37,4 @@ pub first-bad-spec : {M : Type 1} → statement M
 first-bad-spec =
     tie.close
     (tie.spec
-    Inv-loop
-    μ-loop
-    loop-holds
-    entry-bad-requires
-    returns
-    add-place
-    loop-less
-    loop-again
-    returns-2)
+    Inv-loop μ-loop loop-holds (λ c κs. search needs) returns (λ c. search needs) (λ c. search needs) loop-again returns-2)

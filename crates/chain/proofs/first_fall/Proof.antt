@@ -2,13 +2,11 @@ use Prim.Native.Nat.{_≤_, _-_}
 use mathlib.Core.Path.{_≡_, refl, _∙_, sym}
 use borrow.Author.Needs.{needs}
 use borrow.Author.Tests.{lt-ltb, le-ltb}
-use Rattle.refusal.specs.First.{first}
-use Rattle.refusal.proofs.FirstLaws.{first-end, first-here, first-next}
+use Rattle.basics.specs.First.{first}
+use Rattle.basics.proofs.FirstLaws.{first-end, first-here, first-next}
 use Rattle.chain.specs.Rules.{fallsAt}
 use Rattle.chain.proofs.first_fall.Statement.{statement}
 use Rattle.chain.proofs.first_fall.Tie as tie
-use Rattle.chain.proofs.first_fall.Reads as reads
-use Rattle.chain.proofs.first_fall.Lts as lts
 
 abbrev Inv-loop : tie.InvT-loop
 Inv-loop n starts i₀ i = (i ≤ n) × (first (fallsAt starts) 0 n ≡ first (fallsAt starts) i n)
@@ -19,30 +17,9 @@ abbrev μ-loop : tie.MeasureT-loop
 loop-holds : tie.Need-loop-holds Inv-loop μ-loop
 loop-holds c = (search needs, refl)
 
-add-if1 : tie.Need-add-if1 Inv-loop μ-loop
-add-if1 c = search needs
-
-mul-if1 : tie.Need-mul-if1 Inv-loop μ-loop
-mul-if1 c = search needs
-
-shared-slice-read-if1 : tie.Need-shared-slice-read-if1 Inv-loop μ-loop
-shared-slice-read-if1 c = search needs
-
-mul-if1-2 : tie.Need-mul-if1-2 Inv-loop μ-loop
-mul-if1-2 c = search needs
-
-shared-slice-read-if1-2 : tie.Need-shared-slice-read-if1-2 Inv-loop μ-loop
-shared-slice-read-if1-2 c = search needs
-
 returns : tie.Need-returns Inv-loop μ-loop
 returns c =
     sym (c .before .before .before .before .loop .inv .1 ∙ first-here _ _ _ (c .before .before .before .loop-test .taken) (lt-ltb _ _ (c .if1 .taken)))
-
-add-i : tie.Need-add-i Inv-loop μ-loop
-add-i c = search needs
-
-loop-less : tie.Need-loop-less Inv-loop μ-loop
-loop-less c = search needs
 
 loop-again : tie.Need-loop-again Inv-loop μ-loop
 loop-again c =
@@ -55,16 +32,5 @@ pub first-fall-spec : {M : Type 1} → statement M
 first-fall-spec =
     tie.close
     (tie.spec
-    Inv-loop
-    μ-loop
-    loop-holds
-    add-if1
-    mul-if1
-    shared-slice-read-if1
-    mul-if1-2
-    shared-slice-read-if1-2
-    returns
-    add-i
-    loop-less
-    loop-again
-    returns-2)
+    Inv-loop μ-loop loop-holds (λ c. search needs) (λ c. search needs) (λ c. search needs) (λ c. search needs) (λ c. search needs) returns
+    (λ c. search needs) (λ c. search needs) loop-again returns-2)

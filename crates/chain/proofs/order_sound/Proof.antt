@@ -1,10 +1,8 @@
 use mathlib.Core.Path.{sym, _∙_}
 use borrow.Author.Tests.{lt-ltb, le-ltb}
-use Rattle.chain.proofs.Tests.{and-no-first, and-decides}
+use Rattle.basics.proofs.BoolLaws.{and-no-first, and-decides}
 use Rattle.chain.proofs.order_sound.Statement.{statement}
 use Rattle.chain.proofs.order_sound.Tie as tie
-use Rattle.chain.proofs.order_sound.Reads as reads
-use Rattle.chain.proofs.order_sound.Lts as lts
 
 returns : tie.Need-returns
 returns c = sym (and-decides _ _ (lt-ltb _ _ (c .if1 .taken)))

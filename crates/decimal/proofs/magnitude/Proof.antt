@@ -70,9 +70,8 @@ returns c =
     ap (λ (v : ℤ). natAbs v + 1) (below (c .before .args .e) (c .before .fits .e) (c .if1 .taken))
     ∙ sym (below-zero (c .before .args .e) (negative (c .before .args .e) (c .before .fits .e) (c .if1 .taken)) .1)
 
-returns-2 : tie.Need-returns-2
-returns-2 c = search needs
-
 pub magnitude-spec : {M : Type 1} → statement M
 magnitude-spec =
-    tie.close (tie.spec sub-below cast-result add-result cast-result-2 returns returns-2)
+    tie.close
+    (tie.spec
+    sub-below cast-result add-result cast-result-2 returns (λ c. search needs))

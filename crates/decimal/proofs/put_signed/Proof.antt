@@ -1,39 +1,41 @@
--- The text is put as it stands in the local array. Assumes nothing.
+-- The sign where the number is negative, then its magnitude. Assumes nothing.
+use mathlib.Core.Path.{ap}
 use native.Mathlib.Omega.{arith}
-use Rattle.decimal.proofs.PutLaws.{put-as}
-use Rattle.decimal.proofs.Writing.{begins, held}
+use lib.ListN.{length}
 use borrow.Author.Needs.{needs}
+use Rattle.decimal.proofs.Writing.{then, signed-minus, signed-plain}
 use Rattle.decimal.proofs.put_signed.Statement.{statement}
 use Rattle.decimal.proofs.put_signed.Tie as tie
 
-write-signed-requires : tie.Need-write-signed-requires
-write-signed-requires c κs = search needs
+put-byte-requires : tie.Need-put-byte-requires
+put-byte-requires c κs =
+    let text = signed-minus (c .before .before .before .before .fits .e) (c .before .before .magnitude .ensures) (c .before .if1 .taken) in
+    omega (arith, ap length text)
 
-array-share-prefix-line : tie.Need-array-share-prefix-line
-array-share-prefix-line c = begins (c .before .write-signed .ensures) (omega arith) .room
-
-slice-aggregate-put-bytes : tie.Need-slice-aggregate-put-bytes
-slice-aggregate-put-bytes c = begins (c .before .before .write-signed .ensures) (omega arith) .size
-
-put-bytes-requires : tie.Need-put-bytes-requires
-put-bytes-requires c κs = search needs
-
-same-length : tie.Need-same-length
-same-length c = search needs
+put-number-requires : tie.Need-put-number-requires
+put-number-requires c κs =
+    let d = c .before .before .before .before in
+    let text = signed-minus (d .before .before .before .before .fits .e) (d .before .before .magnitude .ensures) (d .before .if1 .taken) in
+    omega (arith, ap length text)
 
 returns : tie.Need-returns
 returns c =
-    rw (held (c .before .before .before .before .before .before .before .before .fits .e))
-    (put-as (begins (c .before .before .before .before .before .write-signed .ensures) (omega arith) .same)
-    (c .before .before .put-bytes .ensures))
+    let d = c .before .before .before .before .before .before .before in
+    rw (signed-minus (d .before .before .before .before .fits .e) (d .before .before .magnitude .ensures) (d .before .if1 .taken))
+    (then (c .before .before .before .before .before .before .put-byte .ensures) (c .before .before .put-number .ensures))
+
+put-number-requires-2 : tie.Need-put-number-requires-2
+put-number-requires-2 c κs =
+    let text = signed-plain (c .before .before .before .before .fits .e) (c .before .before .magnitude .ensures) (c .before .if1 .left) in
+    omega (arith, ap length text)
+
+returns-2 : tie.Need-returns-2
+returns-2 c =
+    let d = c .before .before .before in
+    rw (signed-plain (d .before .before .before .before .fits .e) (d .before .before .magnitude .ensures) (d .before .if1 .left)) (c .before .before .put-number2 .ensures)
 
 pub put-signed-spec : {M : Type 1} → statement M
 put-signed-spec =
     tie.close
     (tie.spec
-    write-signed-requires
-    array-share-prefix-line
-    slice-aggregate-put-bytes
-    put-bytes-requires
-    same-length
-    returns)
+    (λ c κs. search needs) put-byte-requires put-number-requires (λ c. search needs) returns put-number-requires-2 (λ c. search needs) returns-2)

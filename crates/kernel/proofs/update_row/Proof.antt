@@ -27,12 +27,12 @@ update-part-requires-2 c κs =
     let h = s .pre .1 in
     let k = s .args .k in
     let q = l .update-part .ensures in
-    let same = q .left k (omega arith) (omega (arith, h)) in (
+    let same = q .earlier k (omega arith) (omega (arith, h)) in (
       still-square (r .square) (q .kept),
       (
         (omega (arith, h), omega (arith, h), omega (arith, h), omega arith, omega (arith, h), l .before .before .before .entry .ensures ∙ sym same),
         λ b g u.
-            subst⁻¹ Fit (ap₂ plus (q .right b (omega arith) u) (ap₂ times same (q .rows k b (omega (arith, h)) u (λ z. omega (arith, h)))))
+            subst⁻¹ Fit (ap₂ plus (q .later b (omega arith) u) (ap₂ times same (q .rows k b (omega (arith, h)) u (λ z. omega (arith, h)))))
             (r .fits (s .args .i) b (omega arith) (omega (arith, h)) (omega (arith, h)) u (λ z. omega arith)),
       ),
     )
@@ -48,11 +48,5 @@ pub update-row-spec : {M : Type 1} → statement M
 update-row-spec =
     tie.close
     (tie.spec
-    (λ c κs. search needs)
-    (λ c. search needs)
-    update-part-requires
-    (λ c. search needs)
-    update-part-requires-2
-    (λ c. search needs)
-    (λ c. search needs)
+    (λ c κs. search needs) (λ c. search needs) update-part-requires (λ c. search needs) update-part-requires-2 (λ c. search needs) (λ c. search needs)
     returns)

@@ -2,19 +2,17 @@
 use mathlib.Core.Path.{_≡_}
 use Prim.Native.Nat.{_+_, _-_, _≤_, _<_}
 use native.Mathlib.Omega.{arith}
-use Rattle.kernel.specs.Kernel.{Updated}
+use Rattle.kernel.specs.Slices.{pair}
+use Rattle.kernel.specs.Inner.{Updated}
 use Rattle.kernel.proofs.Updates.{rows-idle, updated-go, ready-on}
 use Rattle.kernel.proofs.update_rows.Statement.{statement}
 use Rattle.kernel.proofs.update_rows.Tie as tie
 
 abbrev Inv-loop : tie.InvT-loop
-Inv-loop m₀ e₀ n k i₀ m e i = (k < i) × (i ≤ n) × Updated n k (k + 1) i m₀ e₀ m e
+Inv-loop m₀ e₀ n k i₀ m e i = (k < i) × (i ≤ n) × Updated n k (k + 1) i (pair m₀ e₀) (pair m e)
 
 abbrev μ-loop : tie.MeasureT-loop
 μ-loop m₀ e₀ n k i₀ m e i = n - i
-
-add-next-row : tie.Need-add-next-row Inv-loop μ-loop
-add-next-row c = omega arith
 
 next-row-requires : tie.Need-next-row-requires Inv-loop μ-loop
 next-row-requires c κs = let s = c .before .before .before .pre in (s .0 .square, (s .1, omega arith))
@@ -28,9 +26,6 @@ update-row-requires : tie.Need-update-row-requires Inv-loop μ-loop
 update-row-requires c κs =
     let l = c .before .before .before in
     (ready-on (omega arith) (omega arith) (l .before .before .before .before .before .pre .0) (l .loop .inv .2), (omega arith, omega arith))
-
-add-next-row-2 : tie.Need-add-next-row-2 Inv-loop μ-loop
-add-next-row-2 c = omega arith
 
 next-row-requires-2 : tie.Need-next-row-requires-2 Inv-loop μ-loop
 next-row-requires-2 c κs =
@@ -72,16 +67,5 @@ pub update-rows-spec : {M : Type 1} → statement M
 update-rows-spec =
     tie.close
     (tie.spec
-    Inv-loop
-    μ-loop
-    add-next-row
-    next-row-requires
-    loop-holds
-    update-row-requires
-    add-next-row-2
-    next-row-requires-2
-    loop-less
-    loop-again
-    same-length
-    same-length-2
-    returns)
+    Inv-loop μ-loop (λ c. omega arith) next-row-requires loop-holds update-row-requires (λ c. omega arith) next-row-requires-2 loop-less loop-again
+    same-length same-length-2 returns)

@@ -3,8 +3,8 @@ use Prim.Native.Nat.{_≤_, _-_}
 use mathlib.Core.Path.{_≡_, refl, sym, _∙_}
 use lib.Dec.{ltb}
 use borrow.Author.Tests.{lt-ltb, le-ltb}
-use Rattle.refusal.specs.First.{first}
-use Rattle.refusal.proofs.FirstLaws.{first-end, first-here, first-next}
+use Rattle.basics.specs.First.{first}
+use Rattle.basics.proofs.FirstLaws.{first-end, first-here, first-next}
 use Rattle.reach.specs.Reach.{bits}
 use Rattle.reach.specs.Answer.{lowestTo, lowestFrom}
 use Rattle.reach.proofs.AnswerLaws.{pair-refused, pair-none}
@@ -47,16 +47,5 @@ pub check-reached-spec : {M : Type 1} → statement M
 check-reached-spec =
     tie.close
     (tie.spec
-    Inv-loop
-    μ-loop
-    (λ c. search needs)
-    (λ c κs. search needs)
-    loop-holds
-    (λ c. search needs)
-    (λ c. search needs)
-    first-clear-as-requires
-    returns
-    (λ c. search needs)
-    (λ c. search needs)
-    loop-again
-    returns-2)
+    Inv-loop μ-loop (λ c. search needs) (λ c κs. search needs) loop-holds (λ c. search needs) (λ c. search needs) first-clear-as-requires returns
+    (λ c. search needs) (λ c. search needs) loop-again returns-2)

@@ -3,12 +3,6 @@ use Rattle.reach.proofs.StepLaws.{close-yes, close-no}
 use borrow.Author.Needs.{needs}
 use Rattle.reach.proofs.close_row.Statement.{statement}
 use Rattle.reach.proofs.close_row.Tie as tie
-use Rattle.reach.proofs.close_row.Reads as reads
-use Rattle.reach.proofs.close_row.Lts as lts
-use Rattle.reach.proofs.test_bit.Reads as test-bit-reads
-
-test-bit-requires : tie.Need-test-bit-requires
-test-bit-requires c κs = search needs
 
 returns : tie.Need-returns
 returns c = close-yes _ _ _ (sym (c .before .test-bit .ensures) ∙ c .if1 .taken)
@@ -17,4 +11,7 @@ returns-2 : tie.Need-returns-2
 returns-2 c = close-no _ _ _ (sym (c .before .test-bit .ensures) ∙ c .if1 .left)
 
 pub close-row-spec : {M : Type 1} → statement M
-close-row-spec = tie.close (tie.spec test-bit-requires returns returns-2)
+close-row-spec =
+    tie.close
+    (tie.spec
+    (λ c κs. search needs) returns returns-2)

@@ -1,17 +1,14 @@
 use Prim.Native.Nat.{_≤_, _-_}
 use mathlib.Core.Path.{_≡_}
 use native.Mathlib.Omega.{arith}
+use Rattle.chain.specs.Rows.{rows}
 use Rattle.reach.proofs.StepLaws.{Reached, close-more}
 use borrow.Author.Needs.{needs}
 use Rattle.reach.proofs.closed.Statement.{statement}
 use Rattle.reach.proofs.closed.Tie as tie
-use Rattle.reach.proofs.closed.Reads as reads
-use Rattle.reach.proofs.closed.Lts as lts
-use Rattle.reach.proofs.close_over.Reads as close-over-reads
-use Rattle.reach.proofs.first_masks.Reads as first-masks-reads
 
 abbrev Inv-loop : tie.InvT-loop
-Inv-loop n starts columns rates masks₀ k₀ masks k = (k ≤ n) × Reached n starts columns rates k (masks .rows)
+Inv-loop n starts columns rates masks₀ k₀ masks k = (k ≤ n) × Reached n (rows n starts columns rates) k (masks .rows)
 
 abbrev μ-loop : tie.MeasureT-loop
 μ-loop n starts columns rates masks₀ k₀ masks k = n - k
@@ -25,12 +22,6 @@ loop-holds c = (search needs, record { held = c .first-masks .ensures })
 close-over-requires : tie.Need-close-over-requires Inv-loop μ-loop
 close-over-requires c κs = omega (arith, c .before .before .before .before .before .before .pre .order .high)
 
-add-k : tie.Need-add-k Inv-loop μ-loop
-add-k c = search needs
-
-loop-less : tie.Need-loop-less Inv-loop μ-loop
-loop-less c = search needs
-
 loop-again : tie.Need-loop-again Inv-loop μ-loop
 loop-again c = (search needs, close-more (c .before .before .loop .inv .1) _ (c .before .loop-test .taken) (c .close-over .ensures))
 
@@ -41,12 +32,4 @@ pub closed-spec : {M : Type 1} → statement M
 closed-spec =
     tie.close
     (tie.spec
-    Inv-loop
-    μ-loop
-    first-masks-requires
-    loop-holds
-    close-over-requires
-    add-k
-    loop-less
-    loop-again
-    returns)
+    Inv-loop μ-loop first-masks-requires loop-holds close-over-requires (λ c. search needs) (λ c. search needs) loop-again returns)

@@ -1,15 +1,12 @@
 use Prim.Native.Nat.{_≤_, _-_}
 use mathlib.Core.Bool.{not}
 use mathlib.Core.Path.{_≡_, refl, sym, ap, _∙_}
-use Rattle.refusal.specs.First.{first}
-use Rattle.refusal.proofs.FirstLaws.{first-end, first-here, first-next}
+use Rattle.basics.specs.First.{first}
+use Rattle.basics.proofs.FirstLaws.{first-end, first-here, first-next}
 use Rattle.reach.specs.Reach.{stands}
 use borrow.Author.Needs.{needs}
 use Rattle.reach.proofs.first_clear.Statement.{statement}
 use Rattle.reach.proofs.first_clear.Tie as tie
-use Rattle.reach.proofs.first_clear.Reads as reads
-use Rattle.reach.proofs.first_clear.Lts as lts
-use Rattle.reach.proofs.test_bit.Reads as test-bit-reads
 
 abbrev Inv-loop : tie.InvT-loop
 Inv-loop row n j₀ j = (j ≤ n) × (first (λ j. not (stands row j)) 0 n ≡ first (λ j. not (stands row j)) j n)
@@ -20,19 +17,10 @@ abbrev μ-loop : tie.MeasureT-loop
 loop-holds : tie.Need-loop-holds Inv-loop μ-loop
 loop-holds c = (search needs, refl)
 
-test-bit-requires : tie.Need-test-bit-requires Inv-loop μ-loop
-test-bit-requires c κs = search needs
-
 returns : tie.Need-returns Inv-loop μ-loop
 returns c =
     sym (c .before .before .before .loop .inv .1
     ∙ first-here _ _ _ (c .before .before .loop-test .taken) (ap not (sym (c .before .test-bit .ensures)) ∙ c .if1 .taken))
-
-add-j : tie.Need-add-j Inv-loop μ-loop
-add-j c = search needs
-
-loop-less : tie.Need-loop-less Inv-loop μ-loop
-loop-less c = search needs
 
 loop-again : tie.Need-loop-again Inv-loop μ-loop
 loop-again c = (
@@ -48,12 +36,4 @@ pub first-clear-spec : {M : Type 1} → statement M
 first-clear-spec =
     tie.close
     (tie.spec
-    Inv-loop
-    μ-loop
-    loop-holds
-    test-bit-requires
-    returns
-    add-j
-    loop-less
-    loop-again
-    returns-2)
+    Inv-loop μ-loop loop-holds (λ c κs. search needs) returns (λ c. search needs) (λ c. search needs) loop-again returns-2)

@@ -2,41 +2,24 @@ use Prim.Native.Nat.{_≤_, _<_, _-_, _+_}
 use mathlib.Core.Path.{_≡_, refl}
 use native.Mathlib.Omega.{arith}
 use lib.ListN.{length}
+use Rattle.chain.specs.Rows.{rows}
 use Rattle.chain.proofs.SoundLaws.{start-within}
 use Rattle.reach.proofs.StepLaws.{Reached, first-none, first-more}
 use borrow.Author.Needs.{needs}
 use Rattle.reach.proofs.first_masks.Statement.{statement}
 use Rattle.reach.proofs.first_masks.Tie as tie
-use Rattle.reach.proofs.first_masks.Reads as reads
-use Rattle.reach.proofs.first_masks.Lts as lts
-use Rattle.reach.proofs.row_mask.Reads as row-mask-reads
 
 abbrev Inv-loop : tie.InvT-loop
-Inv-loop n starts columns rates masks₀ i₀ masks i = (i ≤ n) × (length (masks .rows) ≡ 64) × Reached i starts columns rates 0 (masks .rows)
+Inv-loop n starts columns rates masks₀ i₀ masks i = (i ≤ n) × (length (masks .rows) ≡ 64) × Reached i (rows n starts columns rates) 0 (masks .rows)
 
 abbrev μ-loop : tie.MeasureT-loop
 μ-loop n starts columns rates masks₀ i₀ masks i = n - i
 
 loop-holds : tie.Need-loop-holds Inv-loop μ-loop
-loop-holds c = (search needs, refl, first-none _ _ _)
-
-mul-begin : tie.Need-mul-begin Inv-loop μ-loop
-mul-begin c = search needs
-
-shared-slice-read-begin : tie.Need-shared-slice-read-begin Inv-loop μ-loop
-shared-slice-read-begin c = search needs
+loop-holds c = (search needs, refl, first-none _)
 
 cast-begin : tie.Need-cast-begin Inv-loop μ-loop
 cast-begin c = omega (arith, c .shared-slice-known4 .given (c .before .before .loop .i))
-
-add-end : tie.Need-add-end Inv-loop μ-loop
-add-end c = search needs
-
-mul-end : tie.Need-mul-end Inv-loop μ-loop
-mul-end c = search needs
-
-shared-slice-read-end : tie.Need-shared-slice-read-end Inv-loop μ-loop
-shared-slice-read-end c = search needs
 
 cast-end : tie.Need-cast-end Inv-loop μ-loop
 cast-end c = omega (arith, c .shared-slice-known5 .given (c .before .before .before .loop .i + 1))
@@ -51,18 +34,6 @@ row-mask-requires c κs =
       λ p a b. omega (arith, s .columns-rule .entry i p l a b .below, s .order .high),
     )
 
-mul-masks : tie.Need-mul-masks Inv-loop μ-loop
-mul-masks c = search needs
-
-element-write-masks : tie.Need-element-write-masks Inv-loop μ-loop
-element-write-masks c = search needs
-
-add-i : tie.Need-add-i Inv-loop μ-loop
-add-i c = search needs
-
-loop-less : tie.Need-loop-less Inv-loop μ-loop
-loop-less c = search needs
-
 loop-again : tie.Need-loop-again Inv-loop μ-loop
 loop-again c = (search needs, search needs, first-more (c .before .before .before .before .loop .inv .2) _ (search needs) (c .row-mask .ensures))
 
@@ -73,20 +44,5 @@ pub first-masks-spec : {M : Type 1} → statement M
 first-masks-spec =
     tie.close
     (tie.spec
-    Inv-loop
-    μ-loop
-    loop-holds
-    mul-begin
-    shared-slice-read-begin
-    cast-begin
-    add-end
-    mul-end
-    shared-slice-read-end
-    cast-end
-    row-mask-requires
-    mul-masks
-    element-write-masks
-    add-i
-    loop-less
-    loop-again
-    returns)
+    Inv-loop μ-loop loop-holds (λ c. search needs) (λ c. search needs) cast-begin (λ c. search needs) (λ c. search needs) (λ c. search needs) cast-end
+    row-mask-requires (λ c. search needs) (λ c. search needs) (λ c. search needs) (λ c. search needs) loop-again returns)

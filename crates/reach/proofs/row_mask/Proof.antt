@@ -5,10 +5,6 @@ use Rattle.reach.proofs.StepLaws.{RowMask, row-none, row-more}
 use borrow.Author.Needs.{needs}
 use Rattle.reach.proofs.row_mask.Statement.{statement}
 use Rattle.reach.proofs.row_mask.Tie as tie
-use Rattle.reach.proofs.row_mask.Reads as reads
-use Rattle.reach.proofs.row_mask.Lts as lts
-use Rattle.reach.proofs.set_bit.Reads as set-bit-reads
-use Rattle.reach.proofs.with_entry.Reads as with-entry-reads
 
 abbrev Inv-loop : tie.InvT-loop
 Inv-loop row begin end columns rates mask₀ place₀ mask place = (begin ≤ place) × (place ≤ end) × RowMask columns rates row begin place mask
@@ -16,35 +12,14 @@ Inv-loop row begin end columns rates mask₀ place₀ mask place = (begin ≤ pl
 abbrev μ-loop : tie.MeasureT-loop
 μ-loop row begin end columns rates mask₀ place₀ mask place = end - place
 
-set-bit-requires : tie.Need-set-bit-requires Inv-loop μ-loop
-set-bit-requires c κs = search needs
-
 loop-holds : tie.Need-loop-holds Inv-loop μ-loop
 loop-holds c = (search needs, search needs, row-none _ _ _ _ _ (c .set-bit .ensures))
-
-mul-with-entry : tie.Need-mul-with-entry Inv-loop μ-loop
-mul-with-entry c = search needs
-
-shared-slice-read-with-entry : tie.Need-shared-slice-read-with-entry Inv-loop μ-loop
-shared-slice-read-with-entry c = search needs
 
 cast-with-entry : tie.Need-cast-with-entry Inv-loop μ-loop
 cast-with-entry c = omega (arith, c .shared-slice-known3 .given (c .before .before .loop .place))
 
-mul-with-entry-2 : tie.Need-mul-with-entry-2 Inv-loop μ-loop
-mul-with-entry-2 c = search needs
-
-shared-slice-read-with-entry-2 : tie.Need-shared-slice-read-with-entry-2 Inv-loop μ-loop
-shared-slice-read-with-entry-2 c = search needs
-
 with-entry-requires : tie.Need-with-entry-requires Inv-loop μ-loop
 with-entry-requires c κs = c .before .before .before .before .before .before .before .pre .1 _ (search needs) (search needs)
-
-add-place : tie.Need-add-place Inv-loop μ-loop
-add-place c = search needs
-
-loop-less : tie.Need-loop-less Inv-loop μ-loop
-loop-less c = search needs
 
 loop-again : tie.Need-loop-again Inv-loop μ-loop
 loop-again c = (
@@ -60,17 +35,5 @@ pub row-mask-spec : {M : Type 1} → statement M
 row-mask-spec =
     tie.close
     (tie.spec
-    Inv-loop
-    μ-loop
-    set-bit-requires
-    loop-holds
-    mul-with-entry
-    shared-slice-read-with-entry
-    cast-with-entry
-    mul-with-entry-2
-    shared-slice-read-with-entry-2
-    with-entry-requires
-    add-place
-    loop-less
-    loop-again
-    returns)
+    Inv-loop μ-loop (λ c κs. search needs) loop-holds (λ c. search needs) (λ c. search needs) cast-with-entry (λ c. search needs) (λ c. search needs)
+    with-entry-requires (λ c. search needs) (λ c. search needs) loop-again returns)

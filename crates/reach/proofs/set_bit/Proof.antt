@@ -5,14 +5,12 @@ use Rattle.reach.proofs.MaskLaws.{stands-or, one-stands}
 use borrow.Author.Needs.{needs}
 use Rattle.reach.proofs.set_bit.Statement.{statement}
 use Rattle.reach.proofs.set_bit.Tie as tie
-use Rattle.reach.proofs.set_bit.Reads as reads
-use Rattle.reach.proofs.set_bit.Lts as lts
-
-shl-result : tie.Need-shl-result
-shl-result c = search needs
 
 returns : tie.Need-returns
 returns c = λ i. stands-or (c .args .mask) _ i ∙ ap (λ (b : Bool). stands (c .args .mask) i || b) (one-stands (c .args .j) i (c .pre))
 
 pub set-bit-spec : {M : Type 1} → statement M
-set-bit-spec = tie.close (tie.spec shl-result returns)
+set-bit-spec =
+    tie.close
+    (tie.spec
+    (λ c. search needs) returns)

@@ -1,57 +1,31 @@
 -- Each case of the table is what the code answers for it. Assumes nothing.
+use mathlib.Core.Path.{_∙_}
 use borrow.Author.Needs.{needs}
 use Rattle.refusal.proofs.chain_line.Statement.{statement}
 use Rattle.refusal.proofs.chain_line.Tie as tie
 
-enum-told : tie.Need-enum-told
-enum-told c = search needs
-
-enum-told-2 : tie.Need-enum-told-2
-enum-told-2 c = search needs
-
-enum-told-3 : tie.Need-enum-told-3
-enum-told-3 c = search needs
-
-enum-known-reason : tie.Need-enum-known-reason
-enum-known-reason c = search needs
-
-enum-told-4 : tie.Need-enum-told-4
-enum-told-4 c = search needs
-
-enum-known-reason-2 : tie.Need-enum-known-reason-2
-enum-known-reason-2 c = search needs
-
 returns : tie.Need-returns
-returns c = rw (c .enum-told .given .1)
+returns c = c .table-line .ensures ∙ rw (c .before .enum-told .given .1)
 
 returns-2 : tie.Need-returns-2
-returns-2 c = rw (c .enum-told2 .given .1)
+returns-2 c = c .table-line2 .ensures ∙ rw (c .before .enum-told2 .given .1)
 
 returns-3 : tie.Need-returns-3
-returns-3 c = rw (c .enum-told3 .given .1)
+returns-3 c = c .table-line3 .ensures ∙ rw (c .before .enum-told3 .given .1)
 
 returns-4 : tie.Need-returns-4
-returns-4 c = rw (c .before .reason .given .1)
+returns-4 c = c .table-line4 .ensures ∙ rw (c .before .before .reason .given .1)
 
 returns-5 : tie.Need-returns-5
-returns-5 c = rw (c .enum-told4 .given .1)
+returns-5 c = c .table-line5 .ensures ∙ rw (c .before .enum-told4 .given .1)
 
 returns-6 : tie.Need-returns-6
-returns-6 c = rw (c .before .reason2 .given .1)
+returns-6 c = c .table-line6 .ensures ∙ rw (c .before .before .reason2 .given .1)
 
 pub chain-line-spec : {M : Type 1} → statement M
 chain-line-spec =
     tie.close
     (tie.spec
-    enum-told
-    enum-told-2
-    enum-told-3
-    enum-known-reason
-    enum-told-4
-    enum-known-reason-2
-    returns
-    returns-2
-    returns-3
-    returns-4
-    returns-5
-    returns-6)
+    (λ c. search needs) (λ c κs. search needs) (λ c. search needs) (λ c κs. search needs) (λ c. search needs) (λ c κs. search needs) (λ c. search needs)
+    (λ c κs. search needs) (λ c. search needs) (λ c κs. search needs) (λ c. search needs) (λ c κs. search needs) returns returns-2 returns-3 returns-4
+    returns-5 returns-6)

@@ -1,21 +1,23 @@
 -- The line of a refusal has room. Assumes nothing.
 use native.Mathlib.Omega.{arith}
-use Rattle.report.proofs.Outcomes.{refused-fills}
+use Rattle.report.proofs.LineLaws.{refused-size, refused-length}
 use borrow.Author.Needs.{needs}
 use Rattle.report.proofs.put_refusal.Statement.{statement}
 use Rattle.report.proofs.put_refusal.Tie as tie
 
-listed-requires : tie.Need-listed-requires
-listed-requires c κs = search needs
-
 put-refused-requires : tie.Need-put-refused-requires
-put-refused-requires c κs = search needs
-
-same-length : tie.Need-same-length
-same-length c = search needs
+put-refused-requires c κs =
+    let line = c .before .listed .result in
+    omega (arith, refused-size line, refused-length line (search needs) (search needs) (search needs))
 
 returns : tie.Need-returns
-returns c = refused-fills _ _ (c .before .before .before .before .listed .ensures) (omega arith) (search needs) (search needs) (search needs) (c .before .before .put-refused .ensures)
+returns c =
+    let line = c .before .before .before .before .listed .result in
+    let put = c .before .before .put-refused .ensures in
+    rw (← c .before .before .before .before .listed .ensures) (put, omega (arith, put .next-is, refused-length line (search needs) (search needs) (search needs)))
 
 pub put-refusal-spec : {M : Type 1} → statement M
-put-refusal-spec = tie.close (tie.spec listed-requires put-refused-requires same-length returns)
+put-refusal-spec =
+    tie.close
+    (tie.spec
+    (λ c κs. search needs) put-refused-requires (λ c. search needs) returns)

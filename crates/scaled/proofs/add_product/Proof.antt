@@ -92,17 +92,5 @@ pub add-product-spec : {M : Type 1} → statement M
 add-product-spec =
     tie.close
     (tie.spec
-    add-e
-    sub-d
-    (λ c κs. search needs)
-    wide-sum-requires
-    returns
-    (λ c. search needs)
-    (λ c. search needs)
-    (λ c. search needs)
-    mul-lowered
-    cast-lowered-3
-    (λ c κs. search needs)
-    add-carried
-    carried-requires
-    returns-2)
+    add-e sub-d (λ c κs. search needs) wide-sum-requires returns (λ c. search needs) (λ c. search needs) (λ c. search needs) mul-lowered cast-lowered-3
+    (λ c κs. search needs) add-carried carried-requires returns-2)

@@ -1,7 +1,7 @@
 -- The size of any exponent fits 64 bits: of a negative e, -1 - e is not negative. Assumes nothing.
-use mathlib.Core.Path.{_≡_, refl, sym, ap, subst, _∙_}
-use mathlib.Core.Bool.{Bool, true, false}
-use Prim.Native.Nat.{ℕ, zero, suc, _+_, _<_, _≤_, _^_}
+use mathlib.Core.Path.{_≡_, sym, ap, _∙_}
+use mathlib.Core.Bool.{true, false≢true}
+use Prim.Native.Nat.{suc, _<_}
 use native.Mathlib.Omega.{arith}
 use lib.Dec.{T}
 use lib.IntN.{ℤ, pos, negsuc, natAbs, _-ℤ_}
@@ -11,16 +11,13 @@ use mir.Val.{Fits, SFits, toZ, ofZ}
 use mir.Facts.{toZ-ofZ}
 use borrow.Author.Needs.{needs}
 use borrow.Author.Tests.{le-ltb}
-use Rattle.scaled.proofs.Signed32.{Held, held, held-fits, stored}
+use Rattle.scaled.proofs.Signed32.{Held, held-fits, stored, not-below}
 use Rattle.scaled_run.proofs.magnitude.Statement.{statement}
 use Rattle.scaled_run.proofs.magnitude.Tie as tie
 
-clash : false ≡ true → ⊥
-clash e = let z : _≡_ {A = ℕ} 0 1 = cc in omega arith
-
 -- -1 - z of a negative z
 turned : (z : ℤ) → ltZ z (pos 0) ≡ true → negsuc 0 -ℤ z ≡ pos (mag z)
-turned (pos n) h = absurd (clash (sym (le-ltb n 0 (omega arith)) ∙ h))
+turned (pos n) h = absurd (false≢true (sym (le-ltb n 0 (omega arith)) ∙ h))
 turned (negsuc n) h = simp (le-ltb (suc n) 1 (omega arith)) (ap pos (omega arith))
 
 module _ (z : ℤ) (f : SFits w32 z) where
@@ -38,10 +35,6 @@ cast-64 z v x t = rw (x .is) (t, go v t (x .small))
     go (pos a) t h = record { fits = omega arith }
     go (negsuc a) t h = absurd t
 
-not-below : (v : ℤ) → ltZ v (pos 0) ≡ false → T (nonNeg v)
-not-below (pos n) h = tt
-not-below (negsuc n) h = absurd (clash (sym h))
-
 sub-w : tie.Need-sub-w
 sub-w c = held-fits (less-one (c .before .args .e) (c .before .fits .e) (c .if1 .taken)) (omega arith)
 
@@ -58,11 +51,8 @@ cast-result-2 c =
     let x = self (c .before .args .e) (c .before .fits .e) in
     cast-64 _ _ x (not-below (c .before .args .e) (rw (x .is) at (c .if1 .left)))
 
-returns : tie.Need-returns
-returns c = search needs
-
-returns-2 : tie.Need-returns-2
-returns-2 c = search needs
-
 pub magnitude-spec : {M : Type 1} → statement M
-magnitude-spec = tie.close (tie.spec sub-w cast-result add-result cast-result-2 returns returns-2)
+magnitude-spec =
+    tie.close
+    (tie.spec
+    sub-w cast-result add-result cast-result-2 (λ c. search needs) (λ c. search needs))

@@ -15,23 +15,11 @@ abbrev μ-loop : tie.MeasureT-loop
 loop-holds : tie.Need-loop-holds Inv-loop μ-loop
 loop-holds c = (omega arith, refl, record { long = refl; at = λ a l. absurd (omega arith) }, record { long = refl; at = λ a l. absurd (omega arith) })
 
-mul-s : tie.Need-mul-s Inv-loop μ-loop
-mul-s c = omega arith
-
 element-write-s : tie.Need-element-write-s Inv-loop μ-loop
 element-write-s c = omega (arith, c .before .loop .inv .2 .long)
 
-mul-s-2 : tie.Need-mul-s-2 Inv-loop μ-loop
-mul-s-2 c = omega arith
-
 element-write-s-2 : tie.Need-element-write-s-2 Inv-loop μ-loop
 element-write-s-2 c = omega (arith, c .before .loop .inv .3 .long)
-
-add-i : tie.Need-add-i Inv-loop μ-loop
-add-i c = omega arith
-
-loop-less : tie.Need-loop-less Inv-loop μ-loop
-loop-less c = omega arith
 
 loop-again : tie.Need-loop-again Inv-loop μ-loop
 loop-again c = (omega arith, c .before .loop .inv .1, own-go (omega arith) (c .before .loop .inv .2), own-go (omega arith) (c .before .loop .inv .3))
@@ -45,14 +33,5 @@ pub all-states-spec : {M : Type 1} → statement M
 all-states-spec =
     tie.close
     (tie.spec
-    Inv-loop
-    μ-loop
-    loop-holds
-    mul-s
-    element-write-s
-    mul-s-2
-    element-write-s-2
-    add-i
-    loop-less
-    loop-again
+    Inv-loop μ-loop loop-holds (λ c. omega arith) element-write-s (λ c. omega arith) element-write-s-2 (λ c. omega arith) (λ c. omega arith) loop-again
     returns)

@@ -5,7 +5,7 @@ use Prim.Native.Nat.{_-_, _≤_}
 use native.Mathlib.Omega.{arith}
 use lib.IntN.{pos}
 use lib.ListN.{length, length-set, replicate, drop}
-use Rattle.solver.proofs.Fills.{fill-go, fill-end}
+use Rattle.basics.proofs.FillLaws.{fill-go, fill-end}
 use Rattle.solver.proofs.clear_e.Statement.{statement}
 use Rattle.solver.proofs.clear_e.Tie as tie
 
@@ -18,23 +18,8 @@ abbrev μ-loop : tie.MeasureT-loop
 loop-holds : tie.Need-loop-holds Inv-loop μ-loop
 loop-holds c = (omega arith, refl, refl)
 
-mul-e : tie.Need-mul-e Inv-loop μ-loop
-mul-e c = omega arith
-
-slice-set-of-e : tie.Need-slice-set-of-e Inv-loop μ-loop
-slice-set-of-e c = omega arith
-
-add-i : tie.Need-add-i Inv-loop μ-loop
-add-i c = omega arith
-
-loop-less : tie.Need-loop-less Inv-loop μ-loop
-loop-less c = omega arith
-
 loop-again : tie.Need-loop-again Inv-loop μ-loop
 loop-again c = (omega arith, simp length-set (omega arith), fill-go (pos 0) _ _ _ (omega arith) (c .before .loop .inv .2))
-
-same-length : tie.Need-same-length Inv-loop μ-loop
-same-length c = omega arith
 
 returns : tie.Need-returns Inv-loop μ-loop
 returns c = fill-end (pos 0) (c .before .loop .i) _ _ (omega arith) (c .before .loop .inv .2)
@@ -43,13 +28,4 @@ pub clear-e-spec : {M : Type 1} → statement M
 clear-e-spec =
     tie.close
     (tie.spec
-    Inv-loop
-    μ-loop
-    loop-holds
-    mul-e
-    slice-set-of-e
-    add-i
-    loop-less
-    loop-again
-    same-length
-    returns)
+    Inv-loop μ-loop loop-holds (λ c. omega arith) (λ c. omega arith) (λ c. omega arith) (λ c. omega arith) loop-again (λ c. omega arith) returns)

@@ -5,20 +5,9 @@ use Rattle.stall.proofs.Answers.{three-put, none-put}
 use borrow.Author.Needs.{needs}
 use Rattle.stall.proofs.put.Statement.{statement}
 use Rattle.stall.proofs.put.Tie as tie
-use Rattle.stall.proofs.put.Reads as reads
-use Rattle.stall.proofs.put.Lts as lts
-
-slice-write-answer : tie.Need-slice-write-answer
-slice-write-answer c = search needs
 
 slice-write-answer-2 : tie.Need-slice-write-answer-2
 slice-write-answer-2 c = omega (arith, c .if1 .taken, length-set (c .before .args .answer .now) 0 (c .before .args .first))
-
-slice-write-answer-3 : tie.Need-slice-write-answer-3
-slice-write-answer-3 c = search needs
-
-same-length : tie.Need-same-length
-same-length c = search needs
 
 returns : tie.Need-returns
 returns c = three-put _ _ _ _ (c .if1 .taken)
@@ -30,9 +19,4 @@ pub put-spec : {M : Type 1} → statement M
 put-spec =
     tie.close
     (tie.spec
-    slice-write-answer
-    slice-write-answer-2
-    slice-write-answer-3
-    same-length
-    returns
-    returns-2)
+    (λ c. search needs) slice-write-answer-2 (λ c. search needs) (λ c. search needs) returns returns-2)

@@ -3,35 +3,23 @@ use mathlib.Core.List.{[], _∷_}
 use mathlib.Core.Path.{ap, ap₂, _∙_}
 use Prim.Native.Nat.{ℕ}
 use Rattle.refusal.specs.declared.Line.{Line}
-use Rattle.stall.specs.Answer.{answered}
+use Rattle.stall.specs.Answer.{handed}
 use borrow.Author.Needs.{needs}
 use Rattle.stall.proofs.tell_refusal.Statement.{statement}
 use Rattle.stall.proofs.tell_refusal.Tie as tie
-use Rattle.stall.proofs.tell_refusal.Reads as reads
-use Rattle.stall.proofs.tell_refusal.Lts as lts
-use Rattle.refusal.proofs.listed.Reads as listed-reads
-use Rattle.stall.proofs.put.Reads as put-reads
-use Rattle.stall.proofs.side_number.Reads as side-number-reads
-
-listed-requires : tie.Need-listed-requires
-listed-requires c κs = search needs
-
-side-number-requires : tie.Need-side-number-requires
-side-number-requires c κs = search needs
-
-put-requires : tie.Need-put-requires
-put-requires c κs = search needs
-
-same-length : tie.Need-same-length
-same-length c = search needs
 
 returns : tie.Need-returns
 returns c =
-    let l = c .before .before .before .before .before .listed .ensures in (
-      ap (λ (x : Line). x .number) l,
-      c .before .before .put .ensures ∙ ap₂ (λ (x : Line) (k : ℕ). answered (c .before .before .before .before .before .before .before .args .answer .now) (x .first ∷ x .second ∷ k ∷ [])) l (c .before .before .before .side-number .ensures),
-    )
+    let k = c .before .before .before in
+    let l = k .before .before .listed .ensures in
+    let old = k .before .before .before .before .args .answer .now in
+    record {
+      returned = ap (λ (x : Line). x .number) l;
+      answer-is = c .before .before .put .ensures ∙ ap₂ (λ (x : Line) (k : ℕ). handed old (x .first ∷ x .second ∷ k ∷ [])) l (k .side-number .ensures);
+    }
 
 pub tell-refusal-spec : {M : Type 1} → statement M
 tell-refusal-spec =
-    tie.close (tie.spec listed-requires side-number-requires put-requires same-length returns)
+    tie.close
+    (tie.spec
+    (λ c κs. search needs) (λ c κs. search needs) (λ c κs. search needs) (λ c. search needs) returns)

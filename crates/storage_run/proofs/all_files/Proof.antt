@@ -1,13 +1,10 @@
 -- `all_files` is safe and ends: the measure is the number of turns left. Assumes nothing.
 use mathlib.Core.Path.{_≡_, refl}
-use native.Mathlib.Omega.{arith}
 use borrow.Author.Needs.{needs}
 use lib.ListN.{length}
+use Rattle.framed.proofs.FetchedLaws.{within}
 use Rattle.storage_run.proofs.all_files.Statement.{statement}
 use Rattle.storage_run.proofs.all_files.Tie as tie
-use Rattle.storage_run.proofs.all_files.Reads as reads
-use Rattle.storage_run.proofs.all_files.Lts as lts
-use Rattle.storage_run.proofs.next_file.Reads as next-file-reads
 
 abbrev Inv-loop : tie.InvT-loop
 Inv-loop buffer₀ turns₀ buffer turns = length buffer ≡ length buffer₀
@@ -18,42 +15,15 @@ abbrev μ-loop : tie.MeasureT-loop
 loop-holds : tie.Need-loop-holds Inv-loop μ-loop
 loop-holds c = refl
 
-next-file-requires : tie.Need-next-file-requires Inv-loop μ-loop
-next-file-requires c κs = tt
+slice-reshare-prefix-report : tie.Need-slice-reshare-prefix-report Inv-loop μ-loop
+slice-reshare-prefix-report c = within _ _ _ (c .before .before .before .before .before .fetch .ensures) (c .before .n .given .1) .0
 
-sub-turns : tie.Need-sub-turns Inv-loop μ-loop
-sub-turns c = omega arith
-
-loop-less : tie.Need-loop-less Inv-loop μ-loop
-loop-less c = omega arith
-
-loop-again : tie.Need-loop-again Inv-loop μ-loop
-loop-again c = search needs
-
-same-length : tie.Need-same-length Inv-loop μ-loop
-same-length c = search needs
-
-returns : tie.Need-returns Inv-loop μ-loop
-returns c = tt
-
-same-length-2 : tie.Need-same-length-2 Inv-loop μ-loop
-same-length-2 c = search needs
-
-returns-2 : tie.Need-returns-2 Inv-loop μ-loop
-returns-2 c = tt
+slice-aggregate-report : tie.Need-slice-aggregate-report Inv-loop μ-loop
+slice-aggregate-report c = within _ _ _ (c .before .before .before .before .before .before .fetch .ensures) (c .before .before .n .given .1) .1
 
 pub all-files-spec : {M : Type 1} → statement M
 all-files-spec =
     tie.close
     (tie.spec
-    Inv-loop
-    μ-loop
-    loop-holds
-    next-file-requires
-    sub-turns
-    loop-less
-    loop-again
-    same-length
-    returns
-    same-length-2
-    returns-2)
+    Inv-loop μ-loop loop-holds (λ c κs. search needs) (λ c. search needs) (λ c. search needs) (λ c. tt) slice-reshare-prefix-report slice-aggregate-report
+    (λ c κs. search needs) (λ c. search needs) (λ c. search needs) (λ c. search needs) (λ c. search needs) (λ c. tt))

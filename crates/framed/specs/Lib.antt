@@ -1,0 +1,2 @@
+-- Files one after the other in one input.
+pub mod Framed

@@ -1,0 +1,74 @@
+-- What the printing program prints for a file that it accepts: the order, the bound count, and for each state numbers within their bounds
+-- of the exact weights of the file's chain, which balance it. Assumes nothing.
+use mathlib.Core.Bool.{true}
+use mathlib.Core.List.{List, [], _∷_, _++_}
+use mathlib.Core.Path.{_≡_}
+use Prim.Native.Nat.{ℕ, zero, suc, _+_, _<_}
+use native.Mathlib.Omega.{arith}
+use lib.ListN.{getD}
+use Rattle.refusal.specs.Table.{accepts, andThen}
+use Rattle.refusal.proofs.VerdictLaws.{accepted-then}
+use Rattle.markov.specs.Chain.{HasAnswer}
+use Rattle.markov.specs.Count.{boundCount}
+use Rattle.chain.specs.Rows.{Rows}
+use Rattle.chain.specs.Rules.{checked}
+use Rattle.chain.specs.Sound.{Sound}
+use Rattle.chain.specs.Meaning.{rateIn}
+use Rattle.reach.specs.Answer.{answered}
+use Rattle.reach.proofs.AnswerLaws.{accepted-answer}
+use Rattle.storage.specs.Bytes.{mapBytes, storedCount, storedRate, ratesAt, storedRates, rowEnd, ratesIn, chainOf}
+use Rattle.storage.specs.Reading.{fileChecked}
+use Rattle.solver.specs.Solve.{solved}
+use Rattle.solver.proofs.Demands.{balancing, accurate}
+use Rattle.solver.proofs.Ranges.{all-fit}
+use Rattle.report.specs.Report.{solvedText, reportOf, Printed}
+
+-- ---- the rates that bytes hold have 32 bits
+
+small-append : (k : ℕ) (xs ys : List ℕ) → ((i : ℕ) → getD xs i 0 < k) → ((i : ℕ) → getD ys i 0 < k) → (i : ℕ) → getD (xs ++ ys) i 0 < k
+small-append k [] ys p q i = q i
+small-append k (x ∷ xs) ys p q zero = p zero
+small-append k (x ∷ xs) ys p q (suc i) = small-append k xs ys (λ j. p (suc j)) q i
+
+module _ (bytes : List ℕ) (fit : (i : ℕ) → getD bytes i 0 < 256) where
+  rate-small : (place : ℕ) → storedRate bytes place < 4294967296
+  unfolding storedRate
+  rate-small place = omega (arith, fit place, fit (place + 1), fit (place + 2), fit (place + 3))
+
+  rates-small : (k place i : ℕ) → getD (ratesAt bytes k place) i 0 < 4294967296
+  rates-small zero place i = omega arith
+  rates-small (suc k) place zero = rate-small place
+  rates-small (suc k) place (suc i) = rates-small k (place + 4) i
+
+  rows-small : (n k map i : ℕ) → getD (ratesIn bytes n k map) i 0 < 4294967296
+  rows-small n zero map i = omega arith
+  rows-small n (suc k) map i =
+      small-append 4294967296 (storedRates bytes n map) (ratesIn bytes n k (rowEnd bytes n map))
+      (rates-small (storedCount bytes n map) (map + mapBytes n)) (rows-small n k (rowEnd bytes n map)) i
+
+-- ---- the text
+
+-- a chain that solving accepts, where the lent slices suffice
+admitted : (c : Rows) {K : ℕ} → solved c true ≡ accepts K → Sound c × HasAnswer (c .order) (rateIn c) × (K ≡ boundCount (c .order))
+unfolding solved
+admitted c {K} h =
+    let r = accepted-then (checked c) (λ _. andThen (answered c) (λ _. accepts (boundCount (c .order)))) K h in
+    let a = accepted-then (answered c) (λ _. accepts (boundCount (c .order))) K (r .2) in
+    let e : _≡_ {A = ℕ} K (boundCount (c .order)) = (let q = a .2 in cc) in
+    let s = accepted-answer c (a .1) in
+    (s .0, s .1, e)
+
+-- for every file of bytes that the program accepts
+pub end-to-end : (bytes : List ℕ) → ((i : ℕ) → getD bytes i 0 < 256) → {e K : ℕ} → fileChecked bytes ≡ accepts e → solved (chainOf bytes) true ≡ accepts K
+    → Printed bytes K
+unfolding reportOf solvedText
+end-to-end bytes fit {K = K} p q =
+    let c = chainOf bytes in
+    let a = admitted c q in
+    let n = c .order in
+    record {
+      text = rw (p, q);
+      count = a .2;
+      balances = balancing n (rateIn c) (a .0 .order .low) (a .1);
+      bounds = rw (a .2) (accurate c (a .0 .order .low) (a .1) (all-fit (a .0) (rows-small bytes fit n n 1) (a .1)));
+    }

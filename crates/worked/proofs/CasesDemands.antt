@@ -1,0 +1,130 @@
+-- What the theorems on accepted chains ask holds of case 2, and there demands 2 and 3 say this of its written numbers, so that
+-- those theorems are not empty. Assumes nothing.
+use mathlib.Core.List.{List, [], _∷_}
+use mathlib.Core.Logic.{_≢_}
+use mathlib.Core.Path.{_≡_, refl, ap}
+use Prim.Native.Nat.{ℕ, zero, suc, _*_, _<_}
+use native.Mathlib.Omega.{arith}
+use lib.Dec.{lit<}
+use lib.ListN.{getD}
+use Rattle.basics.specs.Sum.{sum}
+use Rattle.basics.specs.Near.{Near}
+use Rattle.scaled.specs.declared.Scaled.{Scaled}
+use Rattle.scaled.specs.Scaled.{zeroNumber}
+use Rattle.scaled.specs.Units.{val, one, factor}
+use Rattle.markov.specs.Chain.{HasAnswer, Balances}
+use Rattle.markov.specs.Weight.{weight}
+use Rattle.markov.specs.Elimination.{pivotOf}
+use Rattle.markov.specs.Count.{boundCount}
+use Rattle.chain.specs.Rules.{startsSound, entryBad, columnsChecked, checked}
+use Rattle.chain.specs.Sound.{Sound}
+use Rattle.chain.specs.Meaning.{rateIn}
+use Rattle.reach.specs.Reach.{via}
+use Rattle.reach.specs.Answer.{allReached, answered}
+use Rattle.reach.proofs.AnswerLaws.{accepted-answer}
+use Rattle.kernel.specs.Numbers.{ops, stage}
+use Rattle.solver.specs.Solve.{entries, weightsOf, sharesOf, Balancing, Accurate, AllInside}
+use Rattle.basics.specs.Lists.{table}
+use Rattle.solver.proofs.Demands.{balancing, accurate}
+use Rattle.solver.proofs.Ranges.{all-fit, in-range}
+use Rattle.worked.specs.Table.{chain2, scaled, minus}
+use Rattle.worked.proofs.Cases.{cases-hold}
+
+-- ---- the numbers of the table, state by state
+
+exact-0 : weight 2 (rateIn chain2) 0 ≡ 1
+unfolding table
+exact-0 = ap (λ (xs : List ℕ). getD xs 0 0) (cases-hold .case-2 .exact-weights)
+
+exact-1 : weight 2 (rateIn chain2) 1 ≡ 3
+unfolding table
+exact-1 = ap (λ (xs : List ℕ). getD xs 1 0) (cases-hold .case-2 .exact-weights)
+
+exact-sum : sum 2 (weight 2 (rateIn chain2)) ≡ 4
+unfolding sum
+exact-sum = omega (arith, exact-0, exact-1)
+
+-- place i of a list of scaled numbers
+abbrev at : ℕ → List Scaled → Scaled
+at i xs = getD xs i zeroNumber
+
+weight-0 : weightsOf chain2 0 ≡ scaled 2863311530 (minus 33)
+unfolding table
+weight-0 = ap (at 0) (cases-hold .case-2 .weights-are)
+
+weight-1 : weightsOf chain2 1 ≡ scaled 2147483648 (minus 31)
+unfolding table
+weight-1 = ap (at 1) (cases-hold .case-2 .weights-are)
+
+share-0 : sharesOf chain2 0 ≡ scaled 2147483648 (minus 33)
+unfolding table
+share-0 = ap (at 0) (cases-hold .case-2 .shares-are)
+
+share-1 : sharesOf chain2 1 ≡ scaled 3221225472 (minus 32)
+unfolding table
+share-1 = ap (at 1) (cases-hold .case-2 .shares-are)
+
+-- ---- what the theorems ask
+
+pub has-answer-2 : Sound chain2 × HasAnswer 2 (rateIn chain2)
+unfolding answered allReached checked startsSound columnsChecked entryBad via rateIn sum
+has-answer-2 = accepted-answer chain2 refl
+
+words-2 : (p : ℕ) → getD (chain2 .rates) p 0 < 4294967296
+words-2 = elim [ zero ↦ lit< tt | suc zero ↦ lit< tt | suc (suc p) ↦ lit< tt ]
+
+-- ---- R-7
+
+pub in-range-2 : AllInside chain2
+in-range-2 = in-range (has-answer-2 .0) words-2 (has-answer-2 .1)
+
+-- the pivot of its one step is the rate 3, which is not Zero
+pub pivot-2 : pivotOf ops 1 (stage 2 0 (entries chain2)) ≢ zeroNumber
+pivot-2 = in-range-2 .pivots 0 (omega arith)
+
+-- ---- demand 2
+
+pub balancing-2 : Balancing 2 (rateIn chain2)
+balancing-2 = balancing 2 (rateIn chain2) (omega arith) (has-answer-2 .1)
+
+-- 1 and 3 balance the chain
+pub balances-2 : Balances 2 (rateIn chain2) (λ i. getD (1 ∷ 3 ∷ []) i 0)
+unfolding rateIn sum
+balances-2 = record {
+  balanced = record { at = elim [ zero ↦ λ l. refl | suc zero ↦ λ l. refl | suc (suc j) ↦ λ l. absurd (omega arith) ] };
+  state = 0;
+  state-below = omega arith;
+  not-zero = omega arith;
+}
+
+-- and what else balances it is in proportion to them
+pub proportion-2 : (w : ℕ → ℕ) → Balances 2 (rateIn chain2) w → w 0 * 3 ≡ w 1 * 1
+proportion-2 w b =
+    let h : w 0 * weight 2 (rateIn chain2) 1 ≡ w 1 * weight 2 (rateIn chain2) 0 = balancing-2 .unique w b .at 0 1 (omega arith) (omega arith) in
+    rw (exact-0, exact-1) at h
+
+-- equal weights do not balance it
+pub equal-weights-2 : Balances 2 (rateIn chain2) (λ i. 1) → ⊥
+equal-weights-2 b = absurd (omega (arith, proportion-2 (λ i. 1) b))
+
+-- ---- demand 3, with K(2) = 8
+
+pub accurate-2 : Accurate 2 (rateIn chain2) 8
+    (weightsOf chain2) (sharesOf chain2)
+accurate-2 =
+    let bound : boundCount 2 ≡ 8 = cases-hold .case-8 .1 in
+    rw bound at (accurate chain2 (omega arith) (has-answer-2 .1) (all-fit (has-answer-2 .0) words-2 (has-answer-2 .1)))
+
+-- the computed weights lie within 8 factors of 1 / 3 and 3 / 3
+pub weight-0-near : Near factor 8 (val (scaled 2863311530 (minus 33)) * 3) (one * 1)
+weight-0-near = rw (weight-0, exact-0, exact-1) at (accurate-2 .weights 0 (omega arith))
+
+pub weight-1-near : Near factor 8 (val (scaled 2147483648 (minus 31)) * 3) (one * 3)
+weight-1-near = rw (weight-1, exact-1) at (accurate-2 .weights 1 (omega arith))
+
+-- the shares lie within 2 × 8 + 2 factors of 1 / 4 and 3 / 4
+pub share-0-near : Near factor 18 (val (scaled 2147483648 (minus 33)) * 4) (one * 1)
+share-0-near = rw (share-0, exact-0, exact-sum) at (accurate-2 .shares 0 (omega arith))
+
+pub share-1-near : Near factor 18 (val (scaled 3221225472 (minus 32)) * 4) (one * 3)
+share-1-near = rw (share-1, exact-1, exact-sum) at (accurate-2 .shares 1 (omega arith))

@@ -1,0 +1,56 @@
+"""Stored chains in Python: the chain that given bytes mean, and the bytes of a chain (docs/FORMAT.md).
+
+A chain is a list of rows, each a list of (column, rate) with columns rising. The order is the number of rows.
+"""
+
+MOST_STATES = 64
+MOST_RATE = 2**32 - 1
+LONGEST_FILE = 16641
+
+
+class Refused(Exception):
+    """A refusal: its number and its two places."""
+
+    def __init__(self, number, first=0, second=0):
+        super().__init__(f"refused {number} {first} {second}")
+        self.number, self.places = number, (first, second)
+
+
+def map_bytes(n):
+    return (n + 7) // 8
+
+
+def read(data):
+    """The chain that the bytes describe; Refused by the first of 8, 1, 9 and 10 that applies, as they are met."""
+    if not data:
+        raise Refused(8)
+    n = data[0]
+    if not 1 <= n <= MOST_STATES:
+        raise Refused(1)
+    rows, at = [], 1
+    for i in range(n):
+        if len(data) < at + map_bytes(n):
+            raise Refused(8)
+        bits = int.from_bytes(data[at:at + map_bytes(n)], "little")
+        at += map_bytes(n)
+        columns = [j for j in range(8 * map_bytes(n)) if bits >> j & 1]
+        for j in columns:
+            if j == i or j >= n:
+                raise Refused(9, i, j)
+        if len(data) < at + 4 * len(columns):
+            raise Refused(8)
+        rows.append([(j, int.from_bytes(data[at + 4 * p:at + 4 * p + 4], "little")) for p, j in enumerate(columns)])
+        at += 4 * len(columns)
+    if at < len(data):
+        raise Refused(10)
+    return rows
+
+
+def write(rows):
+    """The bytes of a chain that keeps the rules 1 to 4."""
+    n = len(rows)
+    parts = [bytes([n])]
+    for row in rows:
+        parts.append(sum(1 << j for j, _ in row).to_bytes(map_bytes(n), "little"))
+        parts.extend(rate.to_bytes(4, "little") for _, rate in row)
+    return b"".join(parts)
