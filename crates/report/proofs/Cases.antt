@@ -20,11 +20,11 @@ use Rattle.chain.specs.Meaning.{rateIn}
 use Rattle.reach.specs.Reach.{via}
 use Rattle.reach.specs.Answer.{allReached, answered}
 use Rattle.kernel.specs.Numbers.{plus, times, dividedBy}
-use Rattle.storage.specs.Bytes.{bitAt, storedRate}
-use Rattle.storage.specs.Reading.{fileChecked, rowChecked, rateChecked}
+use Rattle.layout.specs.Bytes.{bitAt, storedRate}
+use Rattle.checking.specs.Verdict.{fileChecked, rowChecked, rateChecked}
 use Rattle.solver.specs.Solve.{entries, weightsOf, sharesOf, solved}
 use Rattle.decimal.specs.Decimal.{decimalDigits, decimal, signed}
-use Rattle.report.specs.Lines.{headerLine, stateLine, stateLines, refusedLine}
+use Rattle.lines.specs.Lines.{headerLine, stateLine, stateLines, refusedLine}
 use Rattle.report.specs.Report.{solvedText, reportOf, Printed}
 use Rattle.report.proofs.EndToEnd.{end-to-end}
 

@@ -16,8 +16,8 @@ use Rattle.chain.specs.Sound.{Sound}
 use Rattle.chain.specs.Meaning.{rateIn}
 use Rattle.reach.specs.Answer.{answered}
 use Rattle.reach.proofs.AnswerLaws.{accepted-answer}
-use Rattle.storage.specs.Bytes.{mapBytes, storedCount, storedRate, ratesAt, storedRates, rowEnd, ratesIn, chainOf}
-use Rattle.storage.specs.Reading.{fileChecked}
+use Rattle.layout.specs.Bytes.{mapBytes, storedCount, storedRate, ratesAt, storedRates, rowEnd, ratesIn, chainOf}
+use Rattle.checking.specs.Verdict.{fileChecked}
 use Rattle.solver.specs.Solve.{solved}
 use Rattle.solver.proofs.Demands.{balancing, accurate}
 use Rattle.solver.proofs.Ranges.{all-fit}

@@ -9,7 +9,7 @@ use lib.Dec.{leb}
 use lib.ListN.{length, take}
 use lib.Seq.{getD-take, length-take-le, take-all}
 use Rattle.refusal.specs.Table.{Verdict, accepts, refuses}
-use Rattle.storage.specs.Reading.{fileChecked}
+use Rattle.checking.specs.Verdict.{fileChecked}
 use Rattle.storage.proofs.Passes.{file-small}
 use Rattle.storage.proofs.Prefix.{Agree, file-same}
 use Rattle.report.specs.Report.{enoughBytes, textAfter, reportOf}

@@ -15,9 +15,9 @@ use Rattle.chain.specs.Rows.{Rows}
 use Rattle.chain.specs.Sound.{Sound}
 use Rattle.kernel.specs.Numbers.{ops}
 use Rattle.solver.specs.Solve.{entries, weightsOf, sharesOf, WellInside, AllInside}
-use Rattle.report.specs.Lines.{stateLine, stateLines, answerLines}
+use Rattle.lines.specs.Lines.{stateLine, stateLines, answerLines}
 use Rattle.report.specs.Report.{longest}
-use Rattle.report.proofs.LineLaws.{answer-size, header-length, state-length}
+use Rattle.lines.proofs.LineLaws.{answer-size, header-length, state-length}
 
 -- ---- a number well inside the range has few digits
 

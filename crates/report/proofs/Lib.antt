@@ -1,5 +1,4 @@
--- The lines and their lengths, the text of a chain from the result slices, each way out of the calls, and the cases of document 01.
-pub mod LineLaws
+-- The text of a chain from the result slices, the length of a text, each way out of the calls, and the cases of document 01.
 pub mod Texts
 pub mod Lengths
 pub mod Input

@@ -16,7 +16,9 @@ use Rattle.kernel.specs.Slices.{numberAt}
 use Rattle.kernel.proofs.Cells.{square}
 use Rattle.storage.specs.declared.Reading.{Reading}
 use Rattle.storage.specs.declared.Reading.the-variants as reading
-use Rattle.storage.specs.Reading.{Stored, Buffers, chainIn, told, fileChecked, Read}
+use Rattle.storage.specs.Reading.{Stored, told, Read}
+use Rattle.layout.specs.Buffers.{Buffers, chainIn}
+use Rattle.checking.specs.Verdict.{fileChecked}
 use Rattle.storage.proofs.Passes.{file-few}
 use Rattle.storage.proofs.RoundTrips.{read-always}
 use Rattle.solver.specs.Lent.{Lent, Roomy}
@@ -24,7 +26,7 @@ use Rattle.solver.specs.Solve.{weightsOf, sharesOf, solved, Solvable, Solved}
 use Rattle.solver.proofs.Room.{roomy-held}
 use Rattle.solver.proofs.Acceptance.{accepted-solvable, solvable-accepted}
 use Rattle.decimal.specs.Put.{Puts}
-use Rattle.report.specs.Lines.{headerLine, answerLines, refusedLine}
+use Rattle.lines.specs.Lines.{headerLine, answerLines, refusedLine}
 use Rattle.report.specs.Report.{longest, solvedText, textAfter, reportOf, Reports}
 use Rattle.report.proofs.EndToEnd.{end-to-end}
 use Rattle.report.proofs.Input.{input-suffices}

@@ -13,7 +13,7 @@ use Rattle.scaled.specs.declared.Scaled.{Scaled}
 use Rattle.kernel.specs.Slices.{Slices, numberAt}
 use Rattle.solver.specs.Lent.{Places}
 use Rattle.solver.specs.Solve.{numbers, afterIn}
-use Rattle.report.specs.Lines.{stateLines}
+use Rattle.lines.specs.Lines.{stateLines}
 
 -- the lines of equal numbers are equal
 pub lines-are : {n : ℕ} {weight share weight′ share′ : ℕ → Scaled} → ((i : ℕ) → i < n → weight i ≡ weight′ i) → ((i : ℕ) → i < n → share i ≡ share′ i)

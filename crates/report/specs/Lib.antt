@@ -1,4 +1,2 @@
--- What the contracts cite: the lines of the printing program, and its text for any bytes.
-pub mod Lines
+-- What the contract cites: the text for any bytes.
 pub mod Report
-pub mod Inner

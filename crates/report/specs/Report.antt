@@ -10,10 +10,10 @@ use Rattle.refusal.specs.Table.{Verdict, accepts, refuses}
 use Rattle.markov.specs.Count.{boundCount}
 use Rattle.chain.specs.Rows.{Rows}
 use Rattle.chain.specs.Meaning.{rateIn}
-use Rattle.storage.specs.Bytes.{chainOf}
-use Rattle.storage.specs.Reading.{fileChecked}
+use Rattle.layout.specs.Bytes.{chainOf}
+use Rattle.checking.specs.Verdict.{fileChecked}
 use Rattle.solver.specs.Solve.{weightsOf, sharesOf, solved, Balancing, Accurate}
-use Rattle.report.specs.Lines.{answerLines, refusedLine}
+use Rattle.lines.specs.Lines.{answerLines, refusedLine}
 
 -- the text for a chain that solving accepts with bound count K, or refuses
 abbrev pub textFor : Rows → Verdict ℕ → List ℕ

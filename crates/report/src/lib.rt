@@ -3,16 +3,13 @@ ghost use Prim.Native.Nat.{_≤_, _<_};
 ghost use lib.ListN.{length};
 ghost use Rattle.refusal.specs.Table.{line};
 ghost use Rattle.chain.specs.Rows.{inRows};
-ghost use Rattle.kernel.specs.Slices.{slices, numberAt};
-ghost use Rattle.storage.specs.Reading.{inBuffers, chainIn};
+ghost use Rattle.layout.specs.Buffers.{inBuffers, chainIn};
 ghost use Rattle.decimal.specs.Put.{Puts};
-ghost use Rattle.report.specs.Lines.{answerLines, refusedLine};
+ghost use Rattle.lines.specs.Lines.{refusedLine};
 ghost use Rattle.report.specs.Report.{longest, solvedText, Reports};
 use refusal::Outcome;
 use refusal::Refusal;
 use storage::Reading;
-
-mod lines;
 
 // "refused", its number, its two places.
 fn put_refusal(out: &mut [u8], refusal: Refusal) -> usize
@@ -21,24 +18,6 @@ fn put_refusal(out: &mut [u8], refusal: Refusal) -> usize
 {
     let line = refusal::listed(refusal);
     lines::put_refused(out, 0, line)
-}
-
-// "states n bound K", then for each state its number, weight m, weight e, share m, share e.
-fn put_answer(
-    out: &mut [u8],
-    order: usize,
-    bound: usize,
-    wm: &[u32],
-    we: &[i32],
-    sm: &[u32],
-    se: &[i32],
-) -> usize
-    requires { ⌜ (length (answerLines order bound (numberAt (slices wm we)) (numberAt (slices sm se))) ≤ length (now out)) ×
-        (order ≤ length (now wm)) × (order ≤ length (now we)) × (order ≤ length (now sm)) × (order ≤ length (now se)) ⌝ }
-    ensures { λ r. ⌜ Puts (now (out .entry)) 0 (answerLines order bound (numberAt (slices (wm .entry) (we .entry))) (numberAt (slices (sm .entry) (se .entry)))) (now (out .exit)) r ⌝ }
-{
-    let at = lines::put_header(out, 0, order, bound);
-    lines::put_states(out, at, order, wm, we, sm, se)
 }
 
 // The text for a chain: its weights and shares, or the refusal of solving.
@@ -64,7 +43,7 @@ fn put_solved(out: &mut [u8], order: usize, starts: &[u32], columns: &[u32], rat
         &mut sm,
         &mut se,
     ) {
-        Outcome::Done(bound) => put_answer(out, order, bound, &wm, &we, &sm, &se),
+        Outcome::Done(bound) => lines::put_answer(out, order, bound, &wm, &we, &sm, &se),
         Outcome::Refused(refusal) => put_refusal(out, refusal),
     }
 }

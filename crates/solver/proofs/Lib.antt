@@ -1,11 +1,9 @@
 -- Laws that the proofs of the functions share, and the theorems about `solve`.
-pub mod Loading
 pub mod Operations
 pub mod Ranges
 pub mod Demands
 pub mod Acceptance
 pub mod Admission
-pub mod Weighing
 pub mod BoundTable
 pub mod Tables
 pub mod Room

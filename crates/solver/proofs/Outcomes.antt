@@ -1,7 +1,7 @@
 -- The contract of `solve` at its two ways out. Assumes nothing.
 use mathlib.Core.List.{List, _++_}
 use mathlib.Core.Path.{_≡_, sym, ap, _∙_}
-use Prim.Native.Nat.{ℕ, _+_, _*_, _≤_, _<_}
+use Prim.Native.Nat.{ℕ, _+_, _-_, _*_, _≤_, _<_}
 use native.Mathlib.Omega.{arith}
 use lib.IntN.{pos}
 use lib.ListN.{length, getD, take, drop, List·getD-append}
@@ -12,18 +12,21 @@ use Rattle.refusal.specs.declared.Refusal.{Refusal}
 use Rattle.refusal.specs.Table.{Verdict, accepts, verdict, after}
 use Rattle.markov.specs.Chain.{Rates}
 use Rattle.markov.specs.Count.{boundCount}
+use Rattle.markov.specs.Promises.{AllFitShares}
 use Rattle.chain.specs.Rows.{Rows}
 use Rattle.scaled.specs.declared.Scaled.{Scaled}
 use Rattle.kernel.specs.Slices.{Slices, pair, numberAt}
+use Rattle.kernel.specs.Numbers.{Fit, ops}
 use Rattle.kernel.specs.Kernel.{Sized}
 use Rattle.solver.specs.Lent.{Lent, enoughIn, Places}
-use Rattle.solver.specs.Solve.{weightsOf, sharesOf, solved, numbers, zeros, afterIn, Solvable, Accurate, Solved}
-use Rattle.solver.specs.Inner.{Weighable, Ran}
+use Rattle.solver.specs.Solve.{entries, weightsOf, sharesOf, solved, numbers, zeros, afterIn, Solvable, Accurate, Solved}
+use Rattle.elimination.specs.Inner.{matrixOf, Weighable, Ran}
 use Rattle.solver.proofs.Demands as demands
 use Rattle.solver.proofs.Ranges as ranges
 use Rattle.solver.proofs.Acceptance.{solved-says, solvable-accepted, accepted-solvable}
 use Rattle.basics.proofs.FillLaws.{length-replicate, table-length, table-at}
-use Rattle.solver.proofs.Tables.{both-equal}
+use Rattle.elimination.proofs.Cleared.{both-equal}
+use Rattle.solver.proofs.Tables.{numbers-are}
 
 -- ---- slices of which the first k places were lent and came back as s
 
@@ -64,6 +67,20 @@ front-number n f old h i l =
     let in-e = List·getD-append (numbers n f .e) (drop n (old .e)) (pos 0) i (omega (arith, z .size-e)) in
     rw (h, in-m, in-e, table-at 0 n (λ i. f i .m) i l, table-at (pos 0) n (λ i. f i .e) i l)
 
+-- ---- what the elimination left, by the definitions of the contract
+
+ran-weights : {c : Rows} {work weights shares : Slices} → Ran c work weights shares → weights ≡ numbers (c .order) (weightsOf c)
+unfolding entries weightsOf
+ran-weights r = numbers-are (r .weights-are)
+
+ran-shares : {c : Rows} {work weights shares : Slices} → Ran c work weights shares → shares ≡ numbers (c .order) (sharesOf c)
+unfolding entries sharesOf
+ran-shares r = numbers-are (r .shares-are)
+
+all-loaded-fit : (c : Rows) → AllFitShares ops Fit (c .order - 1) (entries c) → AllFitShares ops Fit (c .order - 1) (matrixOf c)
+unfolding entries
+all-loaded-fit c f = f
+
 accurate-cong : {n : ℕ} {rate : Rates} {count : ℕ} {w w′ s s′ : ℕ → Scaled} → ((i : ℕ) → i < n → w′ i ≡ w i) → ((i : ℕ) → i < n → s′ i ≡ s i)
     → Accurate n rate count w s → Accurate n rate count w′ s′
 accurate-cong p q h = record {
@@ -93,21 +110,21 @@ module _ {c : Rows} {old : Lent} {r : Outcome} (q : verdict r ≡ solved c (enou
       never : (k : ℕ) → verdict r ≡ accepts k → ⊥
       never k a = let u : verdict r ≡ verdict (Refused f) = ap verdict t in let z : _≡_ {A = ℕ} 0 1 = cc in omega arith
 
-  pub solve-done : {k : ℕ} {new : Lent} → r ≡ Done k → ((p : ℕ) → getD (c .rates) p 0 < 4294967296) → Ran c new → Solved c old r (back (c .order) new old)
+  pub solve-done : {k : ℕ} {new : Lent} → r ≡ Done k → ((p : ℕ) → getD (c .rates) p 0 < 4294967296) → Ran c (new .work) (new .weights) (new .shares) → Solved c old r (back (c .order) new old)
   solve-done {k} {new} t words ran = record {
     answer = q;
     says = rw q (solved-says c old);
     acceptance = (λ h. q ∙ solvable-accepted c old h, λ a. accepted-solvable c old (sym q ∙ a));
     work = back-done a (h .room .for-work) (zeros-sized (n * n)) (ran .work);
-    weights = back-done a (h .room .for-weights) (numbers-sized n _) (ran .weights);
-    shares = back-done a (h .room .for-shares) (numbers-sized n _) (ran .shares);
+    weights = back-done a (h .room .for-weights) (numbers-sized n _) (ran-weights ran);
+    shares = back-done a (h .room .for-shares) (numbers-sized n _) (ran-shares ran);
     in-range = λ k p. ranges.in-range (h .sound) words (h .answer);
     balancing = λ s g. demands.balancing n _ (s .order .low) g;
     accurate = λ k p.
         let b = a in
         let e : boundCount n ≡ k = cc in
         rw (← e)
-        (accurate-cong (front-number n (weightsOf c) (old .weights) (ran .weights)) (front-number n (sharesOf c) (old .shares) (ran .shares))
+        (accurate-cong (front-number n (weightsOf c) (old .weights) (ran-weights ran)) (front-number n (sharesOf c) (old .shares) (ran-shares ran))
         (demands.accurate c (h .sound .order .low) (h .answer) (ranges.all-fit (h .sound) words (h .answer))));
   }
     where
@@ -137,8 +154,7 @@ runnable h w =
     let z = cut-sized (h .room .for-work) in (
       record {
         sound = h .sound;
-        words = w;
-        answer = h .answer;
+        fits = all-loaded-fit _ (ranges.all-fit (h .sound) w (h .answer));
         square = record { order = h .sound .order .high; size-m = z .size-m; size-e = z .size-e };
         sized = cut-sized (h .room .for-weights);
       },

@@ -23,7 +23,7 @@ use Rattle.chain.specs.Meaning.{rateIn}
 use Rattle.chain.proofs.RateLaws.{Move, rate-move, entry-rate}
 use Rattle.kernel.specs.Numbers.{Fit, dividedBy, ops, stage}
 use Rattle.kernel.proofs.Operands.{over-both}
-use Rattle.kernel.proofs.Steps.{stage-fits}
+use Rattle.steps.proofs.Steps.{stage-fits}
 use Rattle.solver.specs.Solve.{entries, weightsOf, sharesOf, WellInside, AllInside}
 use Rattle.solver.proofs.Operations.{promises, factor-mild, ample}
 

@@ -1,4 +1,3 @@
--- What the contract of `solve` cites, and apart from it (Inner) what the contracts of its parts cite.
+-- What the contract of `solve` cites.
 pub mod Lent
 pub mod Solve
-pub mod Inner

@@ -1,16 +1,11 @@
-// The public call that solves a chain, and the parts around the elimination: loading, clearing, the bound count.
+// The public call that solves a chain: what it refuses, the bound count, and the elimination on the needed places.
 ghost use mathlib.Core.Path.{_≡_};
-ghost use Prim.Native.Nat.{ℕ, _+_, _*_, _-_, _<_, _≤_};
-ghost use lib.IntN.{pos};
-ghost use lib.ListN.{length, getD, replicate};
+ghost use Prim.Native.Nat.{_<_, _≤_};
 ghost use Rattle.refusal.specs.Table.{verdict};
 ghost use Rattle.markov.specs.Count.{boundCount};
 ghost use Rattle.chain.specs.Rows.{inRows};
-ghost use Rattle.kernel.specs.Slices.{slices};
-ghost use Rattle.kernel.specs.Kernel.{Square, Sized, Holds};
 ghost use Rattle.solver.specs.Lent.{lent, bothHave, enough};
-ghost use Rattle.solver.specs.Solve.{weightsOf, solved, Solved};
-ghost use Rattle.solver.specs.Inner.{Listed, RowLoaded, Loadable, Loaded, EntryLoaded, Weighable, Ran};
+ghost use Rattle.solver.specs.Solve.{solved, Solved};
 use refusal::ChainReason;
 use refusal::Outcome;
 use refusal::Refusal;
@@ -19,132 +14,6 @@ fn wide(x: u32) -> usize
     ensures { λ r. ⌜ r ≡ x ⌝ }
 {
     x as usize
-}
-
-// Zeros in all places.
-fn clear_m(m: &mut [u32])
-    ensures { λ _. ⌜ now (m .exit) ≡ replicate (length (now (m .entry))) 0 ⌝ }
-{
-    let mut i = 0;
-    while i < m.len() {
-        m[i] = 0;
-        i += 1;
-    }
-}
-
-fn clear_e(e: &mut [i32])
-    ensures { λ _. ⌜ now (e .exit) ≡ replicate (length (now (e .entry))) (pos 0) ⌝ }
-{
-    let mut i = 0;
-    while i < e.len() {
-        e[i] = 0;
-        i += 1;
-    }
-}
-
-fn clear(m: &mut [u32], e: &mut [i32])
-    ensures { λ _. ⌜ (now (m .exit) ≡ replicate (length (now (m .entry))) 0) × (now (e .exit) ≡ replicate (length (now (e .entry))) (pos 0)) ⌝ }
-{
-    clear_m(m);
-    clear_e(e);
-}
-
-// The states that are solved, in state order, and the place of each state of the chain among them: 64 for one that is left out.
-pub struct States {
-    pub count: usize,
-    pub list: [usize; 64],
-    pub places: [usize; 64],
-}
-
-// All states of a chain of order n.
-fn all_states(n: usize) -> States
-    requires { ⌜ n ≤ 64 ⌝ }
-    ensures { λ s. ⌜ (s .count ≡ n) × Listed n n (s .list) (s .places) × ((a : ℕ) → a < n → getD (s .list) a 0 ≡ a) ⌝ }
-{
-    let mut s = States {
-        count: n,
-        list: [0; 64],
-        places: [64; 64],
-    };
-    let mut i = 0;
-    while i < n {
-        s.list[i] = i;
-        s.places[i] = i;
-        i += 1;
-    }
-    s
-}
-
-// Puts the entry at place p into row a, if its column is listed.
-fn load_entry(
-    places: &[usize],
-    r: usize,
-    a: usize,
-    columns: &[u32],
-    rates: &[u32],
-    p: usize,
-    m: &mut [u32],
-    e: &mut [i32],
-)
-    requires { ⌜ Square r (slices m e) ⌝ }
-    requires { ⌜ (a < r) × (p < length (now columns)) × (p < length (now rates)) × (getD (now columns) p 0 < length (now places)) ⌝ }
-    ensures { λ _. ⌜ EntryLoaded r a (getD (now (places .entry)) (getD (now (columns .entry)) p 0) 0) (getD (now (rates .entry)) p 0)
-        (slices (m .entry) (e .entry)) (slices (m .exit) (e .exit)) ⌝ }
-{
-    let b = places[wide(columns[p])];
-    if b < r {
-        kernel::put(m, e, r, a, b, scaled::from_rate(rates[p]));
-    }
-}
-
-// Puts the entries of the state at place a of the list into row a of the matrix.
-fn load_row(
-    n: usize,
-    starts: &[u32],
-    columns: &[u32],
-    rates: &[u32],
-    states: &[usize],
-    places: &[usize],
-    r: usize,
-    a: usize,
-    m: &mut [u32],
-    e: &mut [i32],
-)
-    requires { ⌜ Loadable (inRows n starts columns rates) (now states) (now places) r (slices m e) ⌝ }
-    requires { ⌜ a < r ⌝ }
-    ensures { λ _. ⌜ RowLoaded (inRows n (starts .entry) (columns .entry) (rates .entry)) (now (states .entry)) r a
-        (getD (now (starts .entry)) (getD (now (states .entry)) a 0 + 1) 0) (slices (m .entry) (e .entry)) (slices (m .exit) (e .exit)) ⌝ }
-{
-    let i = states[a];
-    let end = wide(starts[i + 1]);
-    let mut p = wide(starts[i]);
-    while p < end {
-        load_entry(places, r, a, columns, rates, p, m, e);
-        p += 1;
-    }
-}
-
-// The matrix of the rates between the listed states.
-fn load(
-    n: usize,
-    starts: &[u32],
-    columns: &[u32],
-    rates: &[u32],
-    states: &[usize],
-    places: &[usize],
-    r: usize,
-    m: &mut [u32],
-    e: &mut [i32],
-)
-    requires { ⌜ Loadable (inRows n starts columns rates) (now states) (now places) r (slices m e) ⌝ }
-    ensures { λ _. ⌜ Loaded (inRows n (starts .entry) (columns .entry) (rates .entry)) (now (states .entry)) r (slices (m .exit) (e .exit)) ⌝ }
-{
-    clear(m, e);
-    let mut a = 0;
-    while a < r {
-        load_row(n, starts, columns, rates, states, places, r, a, m, e);
-        a += 1;
-    }
 }
 
 // The bound counts K(1) to K(64).
@@ -221,49 +90,6 @@ fn bound_count(n: usize) -> usize
     ensures { λ r. ⌜ r ≡ boundCount n ⌝ }
 {
     wide(BOUND_COUNTS[n - 1])
-}
-
-// The weights of a chain, by the elimination of all its states.
-fn weigh(
-    n: usize,
-    starts: &[u32],
-    columns: &[u32],
-    rates: &[u32],
-    m: &mut [u32],
-    e: &mut [i32],
-    wm: &mut [u32],
-    we: &mut [i32],
-)
-    requires { ⌜ Weighable (inRows n starts columns rates) (slices m e) (slices wm we) ⌝ }
-    ensures { λ _. ⌜ Holds n (weightsOf (inRows n (starts .entry) (columns .entry) (rates .entry))) (slices (wm .exit) (we .exit)) ⌝ }
-{
-    let states = all_states(n);
-    let list = states.list;
-    let places = states.places;
-    load(n, starts, columns, rates, &list, &places, n, m, e);
-    kernel::weigh(m, e, n, wm, we);
-}
-
-// Solves on slices cut to the needed places, and clears the work places.
-fn run(
-    n: usize,
-    starts: &[u32],
-    columns: &[u32],
-    rates: &[u32],
-    m: &mut [u32],
-    e: &mut [i32],
-    wm: &mut [u32],
-    we: &mut [i32],
-    sm: &mut [u32],
-    se: &mut [i32],
-)
-    requires { ⌜ Weighable (inRows n starts columns rates) (slices m e) (slices wm we) ⌝ }
-    requires { ⌜ Sized n (slices sm se) ⌝ }
-    ensures { λ _. ⌜ Ran (inRows n (starts .entry) (columns .entry) (rates .entry)) (lent (m .exit) (e .exit) (wm .exit) (we .exit) (sm .exit) (se .exit)) ⌝ }
-{
-    weigh(n, starts, columns, rates, m, e, wm, we);
-    clear(m, e);
-    kernel::share(wm, we, n, sm, se);
 }
 
 fn both_have(k: usize, m: usize, e: usize) -> bool
@@ -351,7 +177,7 @@ pub fn solve(
         return answer;
     };
     let need = n * n;
-    run(
+    elimination::run(
         n,
         starts,
         columns,

@@ -10,7 +10,8 @@ use Rattle.refusal.specs.declared.Outcome.{Outcome}
 use Rattle.refusal.specs.Table.{Verdict, verdict}
 use Rattle.chain.specs.Rows.{Rows}
 use Rattle.storage.specs.declared.Reading.{Reading}
-use Rattle.storage.specs.Reading.{Buffers, told, Read}
+use Rattle.layout.specs.Buffers.{Buffers}
+use Rattle.storage.specs.Reading.{told, Read}
 use Rattle.storage.specs.Writing.{Written}
 use Rattle.solver.specs.Lent.{Lent}
 use Rattle.solver.specs.Solve.{Solved}

@@ -6,7 +6,9 @@ use lib.ListN.{length}
 use Rattle.refusal.specs.declared.Outcome.{Outcome}
 use Rattle.chain.specs.Rows.{Rows}
 use Rattle.storage.specs.declared.Reading.{Reading}
-use Rattle.storage.specs.Reading.{Buffers, readVerdict, Read}
+use Rattle.layout.specs.Buffers.{Buffers}
+use Rattle.checking.specs.Verdict.{readVerdict}
+use Rattle.storage.specs.Reading.{Read}
 use Rattle.storage.specs.Writing.{writeVerdict, Written}
 use Rattle.solver.specs.Lent.{Lent, enoughIn}
 use Rattle.solver.specs.Solve.{solved, Solved}

@@ -21,12 +21,14 @@ use Rattle.refusal.specs.declared.Refusal.the-variants.{Chain}
 use Rattle.refusal.specs.declared.ChainReason.the-variants as chain
 use Rattle.storage.specs.declared.Reading.{Reading}
 use Rattle.storage.specs.declared.Reading.the-variants as reading
-use Rattle.storage.specs.Bytes.{orderOf, chainOf}
-use Rattle.storage.specs.File.{fileOf, fileSize}
-use Rattle.storage.specs.Reading.{told, fileChecked, readVerdict, ReadSays, Stored, Buffers, chainIn, Read}
+use Rattle.layout.specs.Bytes.{orderOf, chainOf}
+use Rattle.layout.specs.File.{fileOf, fileSize}
+use Rattle.storage.specs.Reading.{told, Stored, Read}
+use Rattle.checking.specs.Verdict.{fileChecked, readVerdict, ReadSays}
+use Rattle.layout.specs.Buffers.{Buffers, chainIn}
 use Rattle.storage.specs.Writing.{writeVerdict, WriteSays, rule-broken, room-short, all-written, Written}
-use Rattle.storage.specs.Inner.{Fill, Filled}
-use Rattle.storage.proofs.Answers.{ReadIs, read-is, file-is}
+use Rattle.packing.specs.Inner.{Fill, Filled}
+use Rattle.checking.proofs.Answers.{ReadIs, read-is, file-is}
 use Rattle.storage.proofs.Meaning.{read-says}
 use Rattle.storage.proofs.ReadWrite.{read-write}
 use Rattle.storage.proofs.WriteRead.{file-forth}

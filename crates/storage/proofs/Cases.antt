@@ -6,8 +6,8 @@ use mathlib.Core.Path.{_≡_, refl}
 use Rattle.chain.specs.Rows.{Rows, rows}
 use Rattle.chain.specs.Rules.{checked, startsSound, columnsChecked, entryBad}
 use Rattle.refusal.specs.Table.{accepts, refuses, of-chain, numbered}
-use Rattle.storage.specs.Bytes.{bitAt}
-use Rattle.storage.specs.Reading.{bytesRefused, rateChecked, rowChecked, fileChecked, roomToRead, readVerdict}
+use Rattle.layout.specs.Bytes.{bitAt}
+use Rattle.checking.specs.Verdict.{bytesRefused, rateChecked, rowChecked, fileChecked, roomToRead, readVerdict}
 use Rattle.storage.specs.Writing.{writeVerdict}
 
 -- "02 02 03 00 00 00 01 01 00 00 00", and the chain that it holds

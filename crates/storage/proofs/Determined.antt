@@ -7,7 +7,8 @@ use Rattle.refusal.specs.declared.Outcome.{Outcome}
 use Rattle.refusal.specs.Table.{verdict}
 use Rattle.chain.specs.Rows.{Rows}
 use Rattle.storage.specs.declared.Reading.{Reading}
-use Rattle.storage.specs.Reading.{told, Buffers, buffers, Read}
+use Rattle.storage.specs.Reading.{told, Read}
+use Rattle.layout.specs.Buffers.{Buffers, buffers}
 use Rattle.storage.specs.Writing.{Written}
 
 pub read-determined : {bytes : List ℕ} {old : Buffers} {r r₂ : Reading} {new new₂ : Buffers} → Read bytes old r new → Read bytes old r₂ new₂

@@ -1,11 +1,4 @@
--- Laws of stored chains, the loops that read and write them, and the theorems.
-pub mod Columns
-pub mod Checks
-pub mod Answers
-pub mod RowFill
-pub mod FileFill
-pub mod MapLaws
-pub mod Storing
+-- Laws of stored chains, and the theorems of reading and writing.
 pub mod Holding
 pub mod MapBits
 pub mod ReadWrite

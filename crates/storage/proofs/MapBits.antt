@@ -10,9 +10,9 @@ use lib.ListN.{length, getD, take, drop}
 use lib.Seq.{drop-cons, drop-drop, getD-drop}
 use borrow.Author.Tests.{eqb-true}
 use Rattle.basics.proofs.FirstLaws.{first-none}
-use Rattle.storage.specs.Bytes.{bitAt, storedRate, ratesAt}
-use Rattle.storage.specs.File.{bit, bitsFrom, has, mapByte, mapOf, bytesOf}
-use Rattle.storage.proofs.MapLaws.{bit-le}
+use Rattle.layout.specs.Bytes.{bitAt, storedRate, ratesAt}
+use Rattle.layout.specs.File.{bit, bitsFrom, has, mapByte, mapOf, bytesOf}
+use Rattle.packing.proofs.MapLaws.{bit-le}
 
 -- ---- a byte that is read and written
 

@@ -14,11 +14,11 @@ use Rattle.basics.proofs.FirstLaws.{IsFirst, first-is}
 use Rattle.chain.specs.Rules.{orderSound}
 use Rattle.chain.proofs.SoundLaws.{order-true, order-of}
 use Rattle.refusal.specs.Table.{Verdict, accepts, refuses, andThen}
-use Rattle.storage.specs.Bytes.{mapBytes, storedCount, storedColumns, columnsIn, orderOf, chainOf}
-use Rattle.storage.specs.Sound.{mapAt, mapEnd, SoundMap, SoundTo, FileSays, order-absent, order-broken, map-cut, bit-broken, rates-cut, left-over, all-sound}
-use Rattle.storage.specs.Reading.{bytesRefused, badBit, firstBadBit, ratesChecked, rowChecked, rowsChecked, fileChecked, roomToRead, readVerdict, ReadSays, bytes-broken, room-short, all-read}
-use Rattle.storage.proofs.Checks.{good-bit, not-bad, rate-cut, rate-whole, rates-sound, row-no-map, row-bad-bit, row-rates}
-use Rattle.storage.proofs.Answers.{has-room, room-is}
+use Rattle.layout.specs.Bytes.{mapBytes, storedCount, storedColumns, columnsIn, orderOf, chainOf}
+use Rattle.checking.specs.Sound.{mapAt, mapEnd, SoundMap, SoundTo, FileSays, order-absent, order-broken, map-cut, bit-broken, rates-cut, left-over, all-sound}
+use Rattle.checking.specs.Verdict.{bytesRefused, badBit, firstBadBit, ratesChecked, rowChecked, rowsChecked, fileChecked, roomToRead, readVerdict, ReadSays, bytes-broken, room-short, all-read}
+use Rattle.checking.proofs.Checks.{good-bit, not-bad, rate-cut, rate-whole, rates-sound, row-no-map, row-bad-bit, row-rates}
+use Rattle.checking.proofs.Answers.{has-room, room-is}
 use Rattle.storage.proofs.Passes.{columns-more}
 
 -- ---- rates that are not all there

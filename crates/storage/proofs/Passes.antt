@@ -13,16 +13,16 @@ use lib.Seq.{getD-append-add}
 use borrow.Author.Tests.{eqb-true}
 use Rattle.chain.specs.Sound.{Sound}
 use Rattle.refusal.specs.Table.{accepts}
-use Rattle.storage.specs.Bytes.{mapBytes, bitAt, storedColumns, storedRates, rowEnd, storedCount, startsIn, columnsIn, ratesIn, orderOf, chainOf}
-use Rattle.storage.specs.Reading.{firstBadBit, rowsChecked, fileChecked}
-use Rattle.storage.specs.File.{fileSize}
+use Rattle.layout.specs.Bytes.{mapBytes, bitAt, storedColumns, storedRates, rowEnd, storedCount, startsIn, columnsIn, ratesIn, orderOf, chainOf}
+use Rattle.checking.specs.Verdict.{firstBadBit, rowsChecked, fileChecked}
+use Rattle.layout.specs.File.{fileSize}
 use Rattle.refusal.proofs.VerdictLaws.{accepted-if}
-use Rattle.storage.proofs.Columns.{length-rates-at}
-use Rattle.storage.proofs.Checks.{RowIs, row-of-file}
-use Rattle.storage.proofs.Answers.{file-is}
+use Rattle.layout.proofs.Columns.{length-rates-at}
+use Rattle.checking.proofs.Checks.{RowIs, row-of-file}
+use Rattle.checking.proofs.Answers.{file-is}
 use Rattle.storage.proofs.Holding.{held, holding-lt}
 use Rattle.storage.proofs.ReadWrite.{bit-column}
-use Rattle.storage.proofs.Storing.{maps-le}
+use Rattle.packing.proofs.Storing.{maps-le}
 
 module _ (bytes : List ℕ) (n : ℕ) where
   -- ---- the starts

@@ -12,11 +12,11 @@ use Rattle.basics.proofs.FirstLaws.{firstOf-cong}
 use Rattle.chain.specs.Rules.{orderSound}
 use Rattle.chain.proofs.SoundLaws.{order-true}
 use Rattle.refusal.specs.Table.{Verdict, accepts, refuses, andThen}
-use Rattle.storage.specs.Bytes.{mapBytes, bitAt, holding, storedColumns, storedCount, orderOf}
-use Rattle.storage.specs.Reading.{badBit, firstBadBit, bytesRefused, ratesChecked, rowChecked, rowsChecked, fileChecked}
-use Rattle.storage.proofs.Checks.{rates-sound, row-is}
+use Rattle.layout.specs.Bytes.{mapBytes, bitAt, holding, storedColumns, storedCount, orderOf}
+use Rattle.checking.specs.Verdict.{badBit, firstBadBit, bytesRefused, ratesChecked, rowChecked, rowsChecked, fileChecked}
+use Rattle.checking.proofs.Checks.{rates-sound, row-is}
 use Rattle.storage.proofs.Passes.{row-few}
-use Rattle.storage.proofs.Storing.{maps-le}
+use Rattle.packing.proofs.Storing.{maps-le}
 
 -- ---- tests that agree
 

@@ -12,13 +12,13 @@ use lib.Seq.{drop-cons, drop-drop, drop-length, take-at, drop-at}
 use borrow.Author.Tests.{eqb-true, ltb-true, ltb-false}
 use Rattle.basics.proofs.FirstLaws.{first-is}
 use Rattle.refusal.specs.Table.{accepts}
-use Rattle.storage.specs.Bytes.{mapBytes, bitAt, storedColumns, storedRates, rowEnd, storedCount, startsIn, columnsIn, ratesIn, orderOf, chainOf}
-use Rattle.storage.specs.Reading.{badBit, firstBadBit, rowsChecked, fileChecked}
-use Rattle.storage.specs.File.{has, mapOf, rowBytes, rowsBytes, fileOf}
+use Rattle.layout.specs.Bytes.{mapBytes, bitAt, storedColumns, storedRates, rowEnd, storedCount, startsIn, columnsIn, ratesIn, orderOf, chainOf}
+use Rattle.checking.specs.Verdict.{badBit, firstBadBit, rowsChecked, fileChecked}
+use Rattle.layout.specs.File.{has, mapOf, rowBytes, rowsBytes, fileOf}
 use Rattle.refusal.proofs.VerdictLaws.{accepted-if}
-use Rattle.storage.proofs.Columns.{length-rates-at}
-use Rattle.storage.proofs.Checks.{good-bit, RowIs, row-of-file}
-use Rattle.storage.proofs.Answers.{file-is}
+use Rattle.layout.proofs.Columns.{length-rates-at}
+use Rattle.checking.proofs.Checks.{good-bit, RowIs, row-of-file}
+use Rattle.checking.proofs.Answers.{file-is}
 use Rattle.storage.proofs.Holding.{has-in, has-out}
 use Rattle.storage.proofs.MapBits.{map-back, rates-back}
 

@@ -10,12 +10,13 @@ use lib.ListN.{length, take}
 use borrow.Author.Tests.{le-leb}
 use Rattle.chain.specs.Rows.{Rows}
 use Rattle.refusal.specs.Table.{Verdict, accepts, refuses, verdict, andThen}
-use Rattle.storage.specs.Bytes.{orderOf}
-use Rattle.storage.specs.File.{fileSize}
-use Rattle.storage.specs.Reading.{told, fileChecked, readVerdict, HasRoom}
+use Rattle.layout.specs.Bytes.{orderOf}
+use Rattle.layout.specs.File.{fileSize}
+use Rattle.storage.specs.Reading.{told}
+use Rattle.checking.specs.Verdict.{fileChecked, readVerdict, HasRoom}
 use Rattle.storage.specs.Writing.{writeVerdict}
 use Rattle.storage.specs.RoundTrips.{WriteThenRead, ReadThenWrite}
-use Rattle.storage.proofs.Answers.{room-is, file-is, read-room}
+use Rattle.checking.proofs.Answers.{room-is, file-is, read-room}
 use Rattle.storage.proofs.Passes.{file-few}
 
 pub write-then-read : WriteThenRead

@@ -15,13 +15,13 @@ use Rattle.chain.specs.Sound.{Sound, SoundEntry}
 use Rattle.chain.proofs.SoundLaws.{order-of, start-within}
 use Rattle.basics.proofs.FirstLaws.{first-is}
 use Rattle.refusal.specs.Table.{accepts}
-use Rattle.storage.specs.Bytes.{mapBytes, bitAt, storedColumns, storedRates, rowEnd, storedCount, startsIn, columnsIn, ratesIn, chainOf}
-use Rattle.storage.specs.Reading.{badBit, firstBadBit, rowChecked, rowsChecked, fileChecked}
-use Rattle.storage.specs.File.{has, mapOf, bytesOf, rowBytes, rowsBytes, fileOf}
-use Rattle.storage.proofs.Checks.{not-bad, rates-sound, row-rates, row-is}
-use Rattle.storage.proofs.Answers.{file-rows}
-use Rattle.storage.proofs.MapLaws.{has-there, length-map-of, length-bytes-of}
-use Rattle.storage.proofs.Storing.{drop-part, starts-next, starts-two, starts-last}
+use Rattle.layout.specs.Bytes.{mapBytes, bitAt, storedColumns, storedRates, rowEnd, storedCount, startsIn, columnsIn, ratesIn, chainOf}
+use Rattle.checking.specs.Verdict.{badBit, firstBadBit, rowChecked, rowsChecked, fileChecked}
+use Rattle.layout.specs.File.{has, mapOf, bytesOf, rowBytes, rowsBytes, fileOf}
+use Rattle.checking.proofs.Checks.{not-bad, rates-sound, row-rates, row-is}
+use Rattle.checking.proofs.Answers.{file-rows}
+use Rattle.packing.proofs.MapLaws.{has-there, length-map-of, length-bytes-of}
+use Rattle.packing.proofs.Storing.{drop-part, starts-next, starts-two, starts-last}
 use Rattle.storage.proofs.Holding.{Rising, none, more, rising-high, holding-has}
 use Rattle.storage.proofs.MapBits.{map-forth, rates-forth}
 

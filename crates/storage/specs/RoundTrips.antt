@@ -7,7 +7,9 @@ use Rattle.chain.specs.Rows.{Rows}
 use Rattle.refusal.specs.Table.{accepts, verdict}
 use Rattle.refusal.specs.declared.Outcome.{Outcome}
 use Rattle.storage.specs.declared.Reading.{Reading}
-use Rattle.storage.specs.Reading.{told, HasRoom, Buffers, chainIn, Read}
+use Rattle.storage.specs.Reading.{told, Read}
+use Rattle.checking.specs.Verdict.{HasRoom}
+use Rattle.layout.specs.Buffers.{Buffers, chainIn}
 use Rattle.storage.specs.Writing.{Written}
 
 -- an accepted writing, and a reading of the bytes written into slices with room: the chain again

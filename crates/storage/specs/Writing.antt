@@ -11,7 +11,7 @@ use Rattle.chain.specs.Sound.{Sound, Says}
 use Rattle.refusal.specs.Table.{Side, Verdict, accepts, refuses, of-chain, numbered, verdict, andThen, after}
 use Rattle.refusal.specs.declared.Line.{Line}
 use Rattle.refusal.specs.declared.Outcome.{Outcome}
-use Rattle.storage.specs.File.{fileOf, fileSize}
+use Rattle.layout.specs.File.{fileOf, fileSize}
 use Rattle.storage.specs.Reading.{Stored}
 
 -- "the writer first checks the chain by 1 to 4, then its buffer by 5": the number of bytes

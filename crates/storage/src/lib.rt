@@ -1,15 +1,15 @@
 // Stored chains: a chain read from bytes into lent slices, and written into lent bytes.
-mod bytes;
-mod check;
-mod fill;
-mod put;
-
+ghost use mathlib.Core.Path.{_≡_};
 ghost use Rattle.chain.specs.Rows.{inRows};
-ghost use Rattle.storage.specs.Reading.{inBuffers, Read};
+ghost use Rattle.checking.specs.Verdict.{readVerdict};
+ghost use Rattle.layout.specs.Buffers.{inBuffers};
+ghost use Rattle.storage.specs.Reading.{told, Read};
 ghost use Rattle.storage.specs.Writing.{Written};
-use check::judge;
-use fill::fill_rows;
-use put::put_chain;
+use checking::check_file;
+use checking::room_for;
+use packing::fill::fill_rows;
+use packing::put::put_chain;
+use refusal::BytesReason;
 use refusal::ChainReason;
 use refusal::Outcome;
 use refusal::Refusal;
@@ -18,6 +18,22 @@ use refusal::Refusal;
 pub enum Reading {
     Chain { order: usize, entries: usize },
     Refused(Refusal),
+}
+
+// What a reading into slices of these lengths answers.
+fn judge(bytes: &[u8], starts: usize, columns: usize, rates: usize) -> Reading
+    ensures { λ r. ⌜ told r ≡ readVerdict (now (bytes .entry)) starts columns rates ⌝ }
+{
+    match check_file(bytes) {
+        Outcome::Refused(refusal) => Reading::Refused(refusal),
+        Outcome::Done(entries) => {
+            let order = bytes[0] as usize;
+            if room_for(order, entries, starts, columns, rates) {
+                return Reading::Chain { order, entries };
+            }
+            Reading::Refused(Refusal::Bytes(BytesReason::Room))
+        }
+    }
 }
 
 // A stored chain, read into the three slices: nothing is written before every refusal is behind.

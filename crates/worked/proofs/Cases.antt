@@ -13,8 +13,8 @@ use Rattle.chain.specs.Meaning.{rateIn}
 use Rattle.reach.specs.Reach.{via}
 use Rattle.reach.specs.Answer.{allReached, answered}
 use Rattle.kernel.specs.Numbers.{plus, times, dividedBy}
-use Rattle.storage.specs.Bytes as bytes
-use Rattle.storage.specs.Reading as reading
+use Rattle.layout.specs.Bytes as bytes
+use Rattle.checking.specs.Verdict as reading
 use Rattle.solver.specs.Lent.{enough}
 use Rattle.solver.specs.Solve.{entries, weightsOf, sharesOf, solved}
 use Rattle.basics.specs.Lists.{table}

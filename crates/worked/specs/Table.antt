@@ -13,9 +13,9 @@ use Rattle.markov.specs.Weight.{weight}
 use Rattle.markov.specs.Count.{boundCount}
 use Rattle.chain.specs.Rows.{Rows, rows}
 use Rattle.chain.specs.Meaning.{rateIn}
-use Rattle.storage.specs.Bytes.{chainOf}
-use Rattle.storage.specs.Reading.{readVerdict}
-use Rattle.storage.specs.File.{fileOf}
+use Rattle.layout.specs.Bytes.{chainOf}
+use Rattle.checking.specs.Verdict.{readVerdict}
+use Rattle.layout.specs.File.{fileOf}
 use Rattle.solver.specs.Lent.{enough}
 use Rattle.solver.specs.Solve.{solved, weightsOf, sharesOf}
 use Rattle.basics.specs.Lists.{table}

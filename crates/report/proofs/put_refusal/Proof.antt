@@ -1,6 +1,6 @@
 -- The line of a refusal has room. Assumes nothing.
 use native.Mathlib.Omega.{arith}
-use Rattle.report.proofs.LineLaws.{refused-size, refused-length}
+use Rattle.lines.proofs.LineLaws.{refused-size, refused-length}
 use borrow.Author.Needs.{needs}
 use Rattle.report.proofs.put_refusal.Statement.{statement}
 use Rattle.report.proofs.put_refusal.Tie as tie

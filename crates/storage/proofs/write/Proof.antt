@@ -8,7 +8,7 @@ use Rattle.chain.specs.Rules.{checked}
 use Rattle.chain.proofs.Reading.{accepted-sound, accepted-count}
 use Rattle.refusal.specs.Table.{accepts, verdict}
 use Rattle.storage.proofs.Calls.{write-stop, write-no-room, write-whole}
-use Rattle.storage.proofs.Storing.{maps-le}
+use Rattle.packing.proofs.Storing.{maps-le}
 use Rattle.storage.proofs.write.Statement.{statement}
 use Rattle.storage.proofs.write.Tie as tie
 

@@ -1,0 +1,3 @@
+-- Laws of the checks of a stored chain.
+pub mod Checks
+pub mod Answers

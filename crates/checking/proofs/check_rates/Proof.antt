@@ -1,0 +1,43 @@
+-- `check_rates`: one turn for each bit, one call of `check_rate` for each rate. Assumes nothing.
+use mathlib.Core.Logic.{⊎-elim}
+use mathlib.Core.Path.{refl, sym, ap, _∙_}
+use Prim.Native.Nat.{_-_}
+use borrow.Author.Needs.{needs}
+use Rattle.refusal.specs.Table.{verdict}
+use Rattle.checking.proofs.Checks.{RatesLeft, rates-end, rates-hit, rates-miss, rates-stop}
+use Rattle.checking.proofs.check_rates.Statement.{statement}
+use Rattle.checking.proofs.check_rates.Tie as tie
+
+abbrev Inv-loop : tie.InvT-loop
+Inv-loop bytes n map place₀ j₀ place j = RatesLeft bytes n map j place
+
+abbrev μ-loop : tie.MeasureT-loop
+μ-loop bytes n map place₀ j₀ place j = n - j
+
+loop-holds : tie.Need-loop-holds Inv-loop μ-loop
+loop-holds c = record { turn = search needs; inside = search needs; same = refl }
+
+returns : tie.Need-returns Inv-loop μ-loop
+returns c =
+    ap verdict (c .enum-told .given .1)
+    ∙ rates-stop _ _ _ _ _ (c .before .before .before .before .before .before .loop .inv) (c .before .before .before .before .before .loop-test .taken)
+    (sym (c .before .before .before .before .bit-at .ensures) ∙ c .before .before .before .if1 .taken) _ _
+    (sym (c .before .before .check-rate .ensures) ∙ ap verdict (c .enum-told .given .1))
+
+loop-again : tie.Need-loop-again Inv-loop μ-loop
+loop-again c =
+    ⊎-elim
+    (λ w. rates-hit _ _ _ _ _ (c .before .before .before .loop .inv) (c .before .before .loop-test .taken) (sym (c .before .bit-at .ensures) ∙ w .0 .taken) _
+    (sym (w .1 .ensures) ∙ ap verdict (w .3 .given .1)) _ (w .5))
+    (λ w. rates-miss _ _ _ _ _ (c .before .before .before .loop .inv) (c .before .before .loop-test .taken) (sym (c .before .bit-at .ensures) ∙ w .0 .left) _ (w .1))
+    (c .if1 .came)
+
+returns-2 : tie.Need-returns-2 Inv-loop μ-loop
+returns-2 c = rates-end _ _ _ _ _ (c .before .loop .inv) (c .loop-test .left)
+
+pub check-rates-spec : {M : Type 1} → statement M
+check-rates-spec =
+    tie.close
+    (tie.spec
+    Inv-loop μ-loop (λ c. search needs) (λ c. search needs) loop-holds (λ c κs. search needs) (λ c κs. search needs) (λ c. search needs)
+    (λ c. search needs) returns (λ c. search needs) (λ c. search needs) loop-again returns-2)

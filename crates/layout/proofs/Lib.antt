@@ -1,0 +1,2 @@
+-- Laws of the columns of a stored chain.
+pub mod Columns

@@ -1,0 +1,2 @@
+-- What the contracts of `updating` cite.
+pub mod Inner

@@ -1,0 +1,3 @@
+-- What the contracts of `weighing` cite.
+pub mod Weighing
+pub mod Inner
