@@ -1,4 +1,4 @@
-/* The stall calculator, for C: three calls, each proved (crates/stall in the repository).
+/* The stall calculator, for C: four calls, each proved (crates/stall in the repository).
  *
  * Link with target/staticlib/libstall.a, which `rt staticlib stall` writes for x86-64 Linux.
  *
@@ -12,7 +12,7 @@
  *
  * Thread-safety: each call is a pure function of what it is lent. It keeps nothing between calls, allocates no memory, does no
  * input or output, and of the C library it uses memcpy and memset alone, so calls on different memory may run at once.
- * `stall_solve` uses less than 4 kilobytes of the stack. Every call ends.
+ * `stall_solve` uses less than 4 kilobytes of the stack, `stall_solve_groups` less than 5. Every call ends.
  *
  * The returned number is 0 (accepted), or the number of the first refusal that applies:
  *    1  the order is 0 or above 64
@@ -24,11 +24,15 @@
  *    8  the stored bytes end early
  *    9  a map's bit stands at its own row, or at n or above: the row, the lowest such bit
  *   10  stored bytes are left over
+ *   11  a state is in no row of the group table: the lowest such state
+ *   12  a state is in two rows of the group table, or more: the lowest such state
+ *   13  a row of the group table is cut short, has a first state above its last, a state of n or more, or a group above 15: the
+ *       lowest such row
  * After a refusal all lent memory is unchanged, the answer slice apart.
  *
  * The answer slice. Where it has three places or more, the first three are written, always:
  *    after 0          what the call below says
- *    after a refusal  answer[0], answer[1]: the refusal's two places, 0 and 0 unless named above;
+ *    after a refusal  answer[0], answer[1]: the refusal's two places, 0 where none is named above;
  *                     answer[2]: the side at fault, STALL_CHAIN or STALL_BYTES
  * Its further places keep what they held. A slice of two places or fewer is not written; the returned number is the same.
  * The answer slice never leads to refusal 5.
@@ -46,6 +50,7 @@ extern "C" {
 #define STALL_MAX_ORDER 64
 #define STALL_MAX_ENTRIES 4032 /* 64 * 63 */
 #define STALL_MAX_BYTES 16641  /* 1 + 64 * 8 + 4 * 4032 */
+#define STALL_GROUPS 16
 
 #define STALL_CHAIN 0
 #define STALL_BYTES 1
@@ -56,7 +61,7 @@ extern "C" {
  *            strictly, are below n and never equal the row
  *   rates    one for each column; a rate of 0 is an entry that means no move
  *
- * A result (m, e) means m * 2^e: 2^31 <= m < 2^32 and -16384 <= e <= 16383. */
+ * A result (m, e) means m * 2^e: 2^31 <= m < 2^32 and -16384 <= e <= 16383. The share of a group may also be Zero, (0, 0). */
 
 /* Solves a chain.
  *   needs     work_m, work_e: n * n places each; the four result slices: n places each; places beyond keep what they held
@@ -76,6 +81,32 @@ uint32_t stall_solve(size_t n,
                      uint32_t *share_m, size_t share_m_length,
                      int32_t *share_e, size_t share_e_length,
                      size_t *answer, size_t answer_length);
+
+/* Solves a chain as stall_solve does, and sums its shares by group.
+ *   table     three numbers a row: a first state, a last state, and the group, 0 to 15, of all states from the first to the last;
+ *             each state is in one row; the rows stand in any order. Rows count from 0, and a last row of one or two numbers
+ *             is a row cut short
+ *   needs     what stall_solve needs; group_m, group_e: STALL_GROUPS places each; places beyond keep what they held
+ *   tries     1, 2, 3, 4, 13, 12, 11, 5, 6 in that order; 13, 12 and 11 each look through the whole table before the next; the side
+ *             at fault is always the chain
+ *   after 0   all that stall_solve says; and group_m[g], group_e[g] are the share of group g: the sum, from Zero, of the shares of
+ *             its states, the lowest state first. A group without states is Zero. Each lies within 2 K(n) + 2 n factors F of
+ *             the exact one
+ *   after a refusal  the work and result slices are unchanged, those of the groups too */
+uint32_t stall_solve_groups(size_t n,
+                            const uint32_t *starts, size_t starts_length,
+                            const uint32_t *columns, size_t columns_length,
+                            const uint32_t *rates, size_t rates_length,
+                            const uint32_t *table, size_t table_length,
+                            uint32_t *work_m, size_t work_m_length,
+                            int32_t *work_e, size_t work_e_length,
+                            uint32_t *weight_m, size_t weight_m_length,
+                            int32_t *weight_e, size_t weight_e_length,
+                            uint32_t *share_m, size_t share_m_length,
+                            int32_t *share_e, size_t share_e_length,
+                            uint32_t *group_m, size_t group_m_length,
+                            int32_t *group_e, size_t group_e_length,
+                            size_t *answer, size_t answer_length);
 
 /* Reads a stored chain: one byte n; then for each row a map of (n + 7) / 8 bytes, bit j in byte j / 8, lowest bit first, and
  * the rates whose bit stands, four bytes each, low byte first.

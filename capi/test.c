@@ -1,4 +1,4 @@
-/* Tests of the three exported calls from C. Exits 0 if all hold, and says which do not. */
+/* Tests of the four exported calls from C. Exits 0 if all hold, and says which do not. */
 #include "stall.h"
 
 #include <stdio.h>
@@ -22,13 +22,16 @@ static int failed, tried;
 
 static size_t answer[4];
 static uint32_t starts[STALL_MAX_ORDER + 1], columns[STALL_MAX_ENTRIES], rates[STALL_MAX_ENTRIES];
-static uint32_t work_m[4096], weight_m[64], share_m[64];
-static int32_t work_e[4096], weight_e[64], share_e[64];
+static uint32_t work_m[4096], weight_m[64], share_m[64], group_m[STALL_GROUPS + 4];
+static int32_t work_e[4096], weight_e[64], share_e[64], group_e[STALL_GROUPS + 4];
 static uint8_t out[STALL_MAX_BYTES];
 
 /* Case 2 of docs/FORMAT.md: 0 to 1 rate 3, 1 to 0 rate 1. */
 static const uint8_t case2[] = {2, 2, 3, 0, 0, 0, 1, 1, 0, 0, 0};
 static const uint32_t starts2[] = {0, 1, 2}, columns2[] = {1, 0}, rates2[] = {3, 1};
+
+/* Case 3: the ring 0 to 1 rate 2, 1 to 2 rate 4, 2 to 0 rate 8; and a table for it: states 0 and 1 in group 3, state 2 in group 15. */
+static const uint32_t starts3[] = {0, 1, 2, 3}, columns3[] = {1, 2, 0}, rates3[] = {2, 4, 8}, table3[] = {0, 1, 3, 2, 2, 15};
 
 static int all_marked(const void *memory, size_t from, size_t bytes)
 {
@@ -60,6 +63,8 @@ static void mark(void)
     memset(weight_e, MARK, sizeof weight_e);
     memset(share_m, MARK, sizeof share_m);
     memset(share_e, MARK, sizeof share_e);
+    memset(group_m, MARK, sizeof group_m);
+    memset(group_e, MARK, sizeof group_e);
     memset(out, MARK, sizeof out);
 }
 
@@ -72,7 +77,8 @@ static int results_unchanged(void)
 {
     return all_marked(work_m, 0, sizeof work_m) && all_marked(work_e, 0, sizeof work_e)
         && all_marked(weight_m, 0, sizeof weight_m) && all_marked(weight_e, 0, sizeof weight_e)
-        && all_marked(share_m, 0, sizeof share_m) && all_marked(share_e, 0, sizeof share_e);
+        && all_marked(share_m, 0, sizeof share_m) && all_marked(share_e, 0, sizeof share_e)
+        && all_marked(group_m, 0, sizeof group_m) && all_marked(group_e, 0, sizeof group_e);
 }
 
 static int answer_is(size_t first, size_t second, size_t third)
@@ -86,6 +92,15 @@ static uint32_t solve_fresh(size_t n, const uint32_t *s, size_t sn, const uint32
     mark();
     return stall_solve(n, s, sn, c, cn, r, rn, work_m, COUNT(work_m), work_e, COUNT(work_e), weight_m, COUNT(weight_m),
                        weight_e, COUNT(weight_e), share_m, COUNT(share_m), share_e, COUNT(share_e), answer, COUNT(answer));
+}
+
+static uint32_t groups_fresh(size_t n, const uint32_t *s, size_t sn, const uint32_t *c, size_t cn, const uint32_t *r, size_t rn,
+                             const uint32_t *t, size_t tn)
+{
+    mark();
+    return stall_solve_groups(n, s, sn, c, cn, r, rn, t, tn, work_m, COUNT(work_m), work_e, COUNT(work_e), weight_m, COUNT(weight_m),
+                              weight_e, COUNT(weight_e), share_m, COUNT(share_m), share_e, COUNT(share_e), group_m, COUNT(group_m),
+                              group_e, COUNT(group_e), answer, COUNT(answer));
 }
 
 static uint32_t read_fresh(const uint8_t *bytes, size_t length)
@@ -120,6 +135,108 @@ static void read_solve_write(void)
     CHECK(write_fresh(2, starts2, 3, columns2, 2, rates2, 2) == 0);
     CHECK(answer_is(sizeof case2, 0, 0));
     CHECK(memcmp(out, case2, sizeof case2) == 0 && all_marked(out, sizeof case2, sizeof out));
+}
+
+static int group_is(int g, uint32_t m, int32_t e)
+{
+    return group_m[g] == m && group_e[g] == e;
+}
+
+static void groups(void)
+{
+    static const uint32_t rates114[] = {1, 1, 4}, rows_falling[] = {1, 2, 7, 0, 0, 7};
+
+    CHECK(groups_fresh(3, starts3, 4, columns3, 3, rates3, 3, table3, COUNT(table3)) == 0);
+    CHECK(answer_is(28, 0, 0));
+    for (int g = 0; g < STALL_GROUPS; g++)
+        CHECK(g == 3 ? group_is(g, 3681400539u, -32) : g == 15 ? group_is(g, 2454267026u, -34) : group_is(g, 0, 0));
+    CHECK(all_marked(group_m, 64, sizeof group_m) && all_marked(group_e, 64, sizeof group_e));
+    for (int i = 0; i < 3; i++) {
+        CHECK(weight_m[i] == 2147483648u && weight_e[i] == -29 - i);
+        CHECK(share_m[i] == 2454267026u && share_e[i] == -32 - i);
+    }
+    CHECK(all_marked(weight_m, 12, sizeof weight_m) && all_marked(weight_e, 12, sizeof weight_e));
+    CHECK(all_marked(share_m, 12, sizeof share_m) && all_marked(share_e, 12, sizeof share_e));
+    CHECK(all_zero(work_m, 36) && all_marked(work_m, 36, sizeof work_m));
+    CHECK(all_zero(work_e, 36) && all_marked(work_e, 36, sizeof work_e));
+
+    /* Summed from the lowest state up, whatever the order of the rows: falling, or row by row, the last bit would be another. */
+    CHECK(groups_fresh(3, starts3, 4, columns3, 3, rates114, 3, rows_falling, COUNT(rows_falling)) == 0 && answer_is(28, 0, 0));
+    CHECK(share_m[0] == 3817748707u && share_e[0] == -33 && share_m[2] == 3817748707u && share_e[2] == -35);
+    CHECK(group_is(7, 4294967295u, -32) && group_is(0, 0, 0));
+}
+
+/* The ring of case 3 with a bad table: the refusal, its first place and unchanged memory. */
+static int table_refused(uint32_t number, size_t place, const uint32_t *t, size_t tn)
+{
+    return groups_fresh(3, starts3, 4, columns3, 3, rates3, 3, t, tn) == number && answer_is(place, 0, STALL_CHAIN) && results_unchanged();
+}
+
+static void groups_refusals(void)
+{
+    static const uint32_t falls[] = {2, 1, 3, 0, 2, 0}, far_last[] = {0, 1, 3, 2, 3, 0}, far_both[] = {0, 2, 0, 3, 3, 0};
+    static const uint32_t far_group[] = {0, 1, 3, 2, 2, 16}, highest[] = {UINT32_MAX, UINT32_MAX, UINT32_MAX};
+    static const uint32_t two_bad[] = {0, 2, 0, 1, 0, 0, 0, 9, 9};
+    static const uint32_t overlap[] = {0, 1, 0, 1, 2, 0}, again[] = {0, 2, 5, 0, 2, 5}, two_twice[] = {2, 2, 0, 1, 2, 0, 1, 1, 0, 0, 0, 0};
+    static const uint32_t thrice[] = {0, 0, 1, 1, 2, 2, 2, 2, 3, 2, 2, 4}, no_low_state[] = {2, 2, 0, 2, 2, 1};
+    static const uint32_t no_first[] = {1, 2, 0}, no_middle[] = {2, 2, 0, 0, 0, 0}, no_last[] = {0, 1, 3};
+
+    CHECK(table_refused(13, 1, table3, 5)); /* cut short by one, by two */
+    CHECK(table_refused(13, 1, table3, 4));
+    CHECK(table_refused(13, 0, table3, 2));
+    CHECK(table_refused(13, 0, table3, 1));
+    CHECK(table_refused(13, 0, falls, COUNT(falls)));
+    CHECK(table_refused(13, 1, far_last, COUNT(far_last)));
+    CHECK(table_refused(13, 1, far_both, COUNT(far_both)));
+    CHECK(table_refused(13, 1, far_group, COUNT(far_group)));
+    CHECK(table_refused(13, 0, highest, COUNT(highest)));
+    CHECK(table_refused(13, 1, two_bad, COUNT(two_bad))); /* the lowest row */
+
+    CHECK(table_refused(12, 1, overlap, COUNT(overlap)));
+    CHECK(table_refused(12, 0, again, COUNT(again)));
+    CHECK(table_refused(12, 1, two_twice, COUNT(two_twice))); /* the lowest state, not that of the first row */
+    CHECK(table_refused(12, 2, thrice, COUNT(thrice)));
+    CHECK(table_refused(12, 2, no_low_state, COUNT(no_low_state))); /* though state 0 is in no row */
+
+    CHECK(table_refused(11, 0, no_first, COUNT(no_first)));
+    CHECK(table_refused(11, 1, no_middle, COUNT(no_middle)));
+    CHECK(table_refused(11, 2, no_last, COUNT(no_last)));
+    CHECK(table_refused(11, 0, table3, 0)); /* the empty table */
+}
+
+/* A call with everything wrong, then mended in one thing after the other: the refusals come in their order. */
+static void groups_order(void)
+{
+    static const uint32_t late[] = {1, 1, 2, 3}, own[] = {1, 1, 0}, stuck[] = {2, 4, 0};
+    static const uint32_t bad_row[] = {0, 1, 3, 1, 1, 16}, twice[] = {0, 1, 3, 1, 1, 15}, missing[] = {0, 1, 3};
+    static const struct {
+        uint32_t number;
+        size_t first, second, n;
+        const uint32_t *starts, *columns, *rates;
+        size_t rates_length;
+        const uint32_t *table;
+        size_t table_length, group_places;
+    } calls[] = {
+        {1, 0, 0, 65, late, own, stuck, 2, bad_row, 6, 15},
+        {2, 0, 0, 3, late, own, stuck, 2, bad_row, 6, 15},
+        {3, 0, 0, 3, late, own, stuck, 3, bad_row, 6, 15},
+        {4, 1, 1, 3, starts3, own, stuck, 3, bad_row, 6, 15},
+        {13, 1, 0, 3, starts3, columns3, stuck, 3, bad_row, 6, 15},
+        {12, 1, 0, 3, starts3, columns3, stuck, 3, twice, 6, 15},
+        {11, 2, 0, 3, starts3, columns3, stuck, 3, missing, 3, 15},
+        {5, 0, 0, 3, starts3, columns3, stuck, 3, table3, 6, 15},
+        {6, 1, 0, 3, starts3, columns3, stuck, 3, table3, 6, 16},
+        {0, 28, 0, 3, starts3, columns3, rates3, 3, table3, 6, 16},
+    };
+
+    for (size_t i = 0; i < COUNT(calls); i++) {
+        mark();
+        CHECK(stall_solve_groups(calls[i].n, calls[i].starts, 4, calls[i].columns, 3, calls[i].rates, calls[i].rates_length, calls[i].table,
+                                 calls[i].table_length, work_m, 9, work_e, 9, weight_m, 3, weight_e, 3, share_m, 3, share_e, 3, group_m,
+                                 calls[i].group_places, group_e, 16, answer, COUNT(answer)) == calls[i].number);
+        CHECK(answer_is(calls[i].first, calls[i].second, STALL_CHAIN));
+        CHECK(calls[i].number == 0 ? group_is(3, 3681400539u, -32) : results_unchanged());
+    }
 }
 
 static void solve_refusals(void)
@@ -166,6 +283,14 @@ static void short_buffers(void)
                           weight_e, 2 - (i == 3), share_m, 2 - (i == 4), share_e, 2 - (i == 5), answer, COUNT(answer)) == 5);
         CHECK(answer_is(0, 0, STALL_CHAIN) && results_unchanged());
     }
+    /* The eight of solving by group, and none of them short. */
+    for (int i = 0; i < 9; i++) {
+        mark();
+        CHECK(stall_solve_groups(3, starts3, 4, columns3, 3, rates3, 3, table3, 6, work_m, 9 - (i == 0), work_e, 9 - (i == 1), weight_m,
+                                 3 - (i == 2), weight_e, 3 - (i == 3), share_m, 3 - (i == 4), share_e, 3 - (i == 5), group_m,
+                                 16 - (i == 6), group_e, 16 - (i == 7), answer, COUNT(answer)) == (i < 8 ? 5 : 0));
+        CHECK(i < 8 ? answer_is(0, 0, STALL_CHAIN) && results_unchanged() : answer_is(28, 0, 0) && group_is(15, 2454267026u, -34));
+    }
     for (int i = 0; i < 3; i++) {
         mark();
         CHECK(stall_read(case2, sizeof case2, starts, 3 - (i == 0), columns, 2 - (i == 1), rates, 2 - (i == 2), answer, COUNT(answer)) == 5);
@@ -186,15 +311,20 @@ static void short_answers(void)
         CHECK(stall_write(2, starts2, 3, columns2, 2, rates2, 2, out, sizeof out, answer, length) == 0);
         CHECK(stall_write(2, starts2, 3, columns2, 2, rates2, 2, out, 0, answer, length) == 5);
         CHECK(all_marked(answer, 0, sizeof answer));
+        for (size_t numbers = 5; numbers <= 6; numbers++) { /* 13, then accepted */
+            CHECK(stall_solve_groups(3, starts3, 4, columns3, 3, rates3, 3, table3, numbers, work_m, 9, work_e, 9, weight_m, 3, weight_e, 3,
+                                     share_m, 3, share_e, 3, group_m, 16, group_e, 16, answer, length) == (numbers == 5 ? 13 : 0));
+            CHECK(all_marked(answer, 0, sizeof answer) && (numbers == 5 ? results_unchanged() : group_is(3, 3681400539u, -32)));
+        }
     }
     mark();
     CHECK(stall_read(case2, sizeof case2, starts, 3, columns, 2, rates, 2, answer, 3) == 0 && answer_is(2, 2, 0));
 }
 
-/* Case 10: order 64, every rate 1, stored, read and solved. */
+/* Case 10: order 64, every rate 1, stored, read, solved, and solved with a row for each state, four states a group. */
 static void largest(void)
 {
-    static uint32_t s[65], c[STALL_MAX_ENTRIES], r[STALL_MAX_ENTRIES];
+    static uint32_t s[65], c[STALL_MAX_ENTRIES], r[STALL_MAX_ENTRIES], t[3 * 64];
     static uint8_t file[STALL_MAX_BYTES];
     size_t k = 0;
     for (uint32_t i = 0; i < 64; i++) {
@@ -204,6 +334,8 @@ static void largest(void)
                 r[k++] = 1;
             }
         s[i + 1] = (uint32_t)k;
+        t[3 * i] = t[3 * i + 1] = 63 - i;
+        t[3 * i + 2] = i % 16;
     }
     CHECK(write_fresh(64, s, 65, c, k, r, k) == 0 && answer_is(STALL_MAX_BYTES, 0, 0));
     memcpy(file, out, sizeof file);
@@ -212,6 +344,9 @@ static void largest(void)
     CHECK(solve_fresh(64, s, 65, c, k, r, k) == 0 && answer_is(182784, 0, 0) && all_zero(work_m, sizeof work_m));
     for (int i = 0; i < 64; i++) /* each share is 1/64 */
         CHECK(share_m[i] == 2147483648u && share_e[i] == -37);
+    CHECK(groups_fresh(64, s, 65, c, k, r, k, t, COUNT(t)) == 0 && answer_is(182784, 0, 0) && all_zero(work_e, sizeof work_e));
+    for (int g = 0; g < STALL_GROUPS; g++) /* each group has 1/16 */
+        CHECK(group_is(g, 2147483648u, -35));
 }
 
 /* Moves between neighbours of 64 states, up by rate 1, down by the highest: shares down to about 2^-2016. Then the same without the
@@ -248,6 +383,9 @@ static void rarest(void)
 int main(void)
 {
     read_solve_write();
+    groups();
+    groups_refusals();
+    groups_order();
     solve_refusals();
     read_refusals();
     short_buffers();

@@ -10,6 +10,8 @@ import worked
 from elimination_model import bound_count, eliminate, first_unreached, printed
 from exact_solver import FACTOR, at_most_times, balances, weights_by_minors, weights_by_trees
 from generate import sound, stored
+from groups_model import GROUPS, HELD, outcome, packed, places_needed, told
+from groups_run import EDGES, ORDER, call_bytes, call_of
 from scaled_model import ZERO, is_scaled, product_of, quotient_of, rate_of, sum_of, value
 from shares_view import guaranteed, relative, rounded
 from stored_chain import read, write
@@ -155,15 +157,27 @@ SLIPS = (
 )
 
 
-def models_with(old, new):
-    """printed() of the models with one edit of their text."""
-    parts = ("tests/scaled_model", "tests/chain_model", "python/stored_chain", "tests/elimination_model")
+# Slips of request R-1, as edits of its model's text.
+GROUP_SLIPS = (
+    ("total_of(shares[state] for state in states_of(table, group))",
+     "total_of(shares[state] for state in reversed(states_of(table, group)))", "a group summed falling"),
+    ("return sorted(state for first", "return list(state for first", "a group summed in the order of the rows"),
+    ("for number, wrong in tests:", "for number, wrong in reversed(tests):", "11 tried before 12"),
+    ("group > 15", "group > 16", "group 16 let through"),
+    ("range(0, len(table), 3)", "range(0, len(table) - 2, 3)", "a row cut short let through"),
+    ("Refused(13, min(bad))", "Refused(13, max(bad))", "13 names the last bad row"),
+)
+PRINTING = ("tests/scaled_model", "tests/chain_model", "python/stored_chain", "tests/elimination_model")
+
+
+def models_with(old, new, parts, name):
+    """The function of this name in the models with one edit of their text."""
     text = "\n".join((ROOT / f"{part}.py").read_text(encoding="utf-8") for part in parts)
     assert text.count(old) == 1, old
     lines = text.replace(old, new).split("\n")
     edited = {"__name__": "edited"}
     exec("\n".join(line for line in lines if not line.startswith(tuple(f"from {Path(part).name}" for part in parts))), edited)
-    return edited["printed"]
+    return edited[name]
 
 
 def answer(model, data):
@@ -173,17 +187,42 @@ def answer(model, data):
         return f"{error!r}"
 
 
+def all_told_apart(slips, parts, model, inputs):
+    for old, new, what in slips:
+        edited = models_with(old, new, parts, model.__name__)
+        assert any(answer(edited, data) != model(data) for data in inputs), f"not told apart: {what}"
+
+
 def slips(seed=1, most=400):
-    for old, new, what in SLIPS:
-        model = models_with(old, new)
-        assert any(answer(model, stored(seed, i)) != printed(stored(seed, i)) for i in range(most)), f"not told apart: {what}"
+    all_told_apart(SLIPS, PRINTING, printed, [stored(seed, i) for i in range(most)])
     return f"{len(SLIPS)} slips, each told apart by the first {most} files of seed {seed}"
+
+
+def group_cases():
+    """The shares of groups worked on paper, and the verdicts of the edges."""
+    for name, rows, table, expected in worked.GROUP_SHARES:
+        lent = [need + 1 for need in places_needed(len(rows))]
+        verdict, slices = outcome(call_of(rows, table, lent))
+        assert verdict == f"accepted {bound_count(len(rows))}", name
+        assert list(zip(*slices[6:])) == [*(expected.get(group, ZERO) for group in range(GROUPS)), (HELD, HELD)], name
+    for index, (verdict, _) in enumerate(EDGES):
+        assert told(call_bytes(1, index)).split("\n")[0] == verdict, f"edge {index}, {verdict}"
+    return f"{len(worked.GROUP_SHARES)} group table worked on paper, the verdicts of {len(EDGES)} edges"
+
+
+def group_slips(seed=1, most=400):
+    calls = [call_bytes(seed, i) for i in range(most)]
+    words = [told(data).split() for data in calls]
+    kinds = {word[1] if word[0] == "refused" else word[0] for word in words}
+    assert kinds == {"accepted", "unreadable", *map(str, ORDER)}, kinds
+    all_told_apart(GROUP_SLIPS, (*PRINTING, "tests/groups_model"), told, calls)
+    return f"{len(GROUP_SLIPS)} slips of groups, each told apart by the first {most} calls of seed {seed}, which meet every refusal"
 
 
 def main():
     rng = random.Random(1)
     parts = (worked_cases, lambda: scaled_numbers(rng), no_number, lambda: exact_solvers(rng), factors, lambda: round_trip(rng),
-             examples, digits, slips)
+             examples, digits, slips, group_cases, group_slips)
     for part in parts:
         try:
             print("ok:", part())

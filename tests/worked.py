@@ -31,6 +31,11 @@ EXACT_WEIGHTS = (
     ("3", [[(1, 2)], [(2, 4)], [(0, 8)]], [32, 16, 8]),
 )
 
+# request R-1, the chain of case 3: a table, and the shares of the groups that are not empty
+GROUP_SHARES = (
+    ("3", [[(1, 2)], [(2, 4)], [(0, 8)]], [0, 1, 3, 2, 2, 15], {3: (3681400539, -32), 15: (2454267026, -34)}),
+)
+
 BOUND_COUNTS = ((1, 0), (2, 8), (3, 28), (64, 182784))
 
 

@@ -1,4 +1,4 @@
-//! Safe calls of the stall calculator: the weights and shares of a chain of at most 64 states.
+//! Safe calls of the stall calculator: the weights and shares of a chain of at most 64 states, and the shares of groups of them.
 //!
 //! The library below is proved: whatever it is given, it answers with results whose distance from the exact ones is bounded, or
 //! with the first refusal that applies. This crate only lends it memory and turns its answers into Rust's types; it is tested and
@@ -23,9 +23,11 @@ pub const MAX_ORDER: usize = 64;
 pub const MAX_ENTRIES: usize = MAX_ORDER * (MAX_ORDER - 1);
 /// The most bytes of a stored chain.
 pub const MAX_BYTES: usize = 16_641;
+/// How many groups there are.
+pub const GROUPS: usize = 16;
 
 /// A chain in rows: the entries of row i stand at places `starts[i]` up to, not including, `starts[i + 1]` of `columns` and
-/// `rates`. Any contents are allowed here; `solve` and `write` refuse what is no chain.
+/// `rates`. Any contents are allowed here; the calls refuse what is no chain.
 #[derive(Clone, Debug, PartialEq, Eq, Hash)]
 pub struct Chain {
     pub order: usize,
@@ -49,18 +51,78 @@ pub struct Solution {
     pub shares: Vec<Scaled>,
 }
 
-fn scaled(m: &[u32], e: &[i32]) -> Vec<Scaled> {
-    m.iter().zip(e).map(|(&m, &e)| Scaled { m, e }).collect()
+/// What solving by group gives for an accepted chain and table.
+#[derive(Clone, Debug, PartialEq, Eq, Hash)]
+pub struct GroupSolution {
+    /// What `solve` gives.
+    pub solution: Solution,
+    /// The share of each group, the sum of the shares of its states; Zero for a group without states. With F = 2^31 / (2^31 - 1),
+    /// each lies within 2 K(n) + 2 n factors F of the exact one.
+    pub groups: [Scaled; GROUPS],
+}
+
+/// Lent places for scaled numbers.
+struct Places {
+    m: Vec<u32>,
+    e: Vec<i32>,
+}
+
+impl Places {
+    fn new(many: usize) -> Places {
+        Places {
+            m: vec![0; many],
+            e: vec![0; many],
+        }
+    }
+
+    fn number(&self, i: usize) -> Scaled {
+        Scaled {
+            m: self.m[i],
+            e: self.e[i],
+        }
+    }
+
+    fn numbers(&self) -> Vec<Scaled> {
+        (0..self.m.len()).map(|i| self.number(i)).collect()
+    }
+}
+
+/// The memory lent to a call that solves.
+struct Lent {
+    work: Places,
+    weights: Places,
+    shares: Places,
+    answer: [usize; 3],
+}
+
+impl Lent {
+    fn new(order: usize) -> Lent {
+        // An order above 64 is refused before any of this memory is met.
+        let n = order.min(MAX_ORDER);
+        Lent {
+            work: Places::new(n * n),
+            weights: Places::new(n),
+            shares: Places::new(n),
+            answer: [0; 3],
+        }
+    }
+
+    /// What the call left there, and returned.
+    fn solution(&self, number: u32) -> Result<Solution, Refusal> {
+        if number != 0 {
+            return Err(Refusal::told(number, self.answer));
+        }
+        Ok(Solution {
+            bound: self.answer[0],
+            weights: self.weights.numbers(),
+            shares: self.shares.numbers(),
+        })
+    }
 }
 
 /// Solves a chain: its weights and shares, or the first refusal of 1 to 6.
 pub fn solve(chain: &Chain) -> Result<Solution, Refusal> {
-    // An order above 64 is refused before any of this memory is met.
-    let n = chain.order.min(MAX_ORDER);
-    let (mut work_m, mut work_e) = (vec![0u32; n * n], vec![0i32; n * n]);
-    let (mut weight_m, mut weight_e) = (vec![0u32; n], vec![0i32; n]);
-    let (mut share_m, mut share_e) = (vec![0u32; n], vec![0i32; n]);
-    let mut answer = [0usize; 3];
+    let mut lent = Lent::new(chain.order);
     // SAFETY: each pointer and length are those of one live slice; the mutable ones are different vectors and one array.
     let number = unsafe {
         sys::stall_solve(
@@ -71,29 +133,77 @@ pub fn solve(chain: &Chain) -> Result<Solution, Refusal> {
             chain.columns.len(),
             chain.rates.as_ptr(),
             chain.rates.len(),
-            work_m.as_mut_ptr(),
-            work_m.len(),
-            work_e.as_mut_ptr(),
-            work_e.len(),
-            weight_m.as_mut_ptr(),
-            weight_m.len(),
-            weight_e.as_mut_ptr(),
-            weight_e.len(),
-            share_m.as_mut_ptr(),
-            share_m.len(),
-            share_e.as_mut_ptr(),
-            share_e.len(),
-            answer.as_mut_ptr(),
-            answer.len(),
+            lent.work.m.as_mut_ptr(),
+            lent.work.m.len(),
+            lent.work.e.as_mut_ptr(),
+            lent.work.e.len(),
+            lent.weights.m.as_mut_ptr(),
+            lent.weights.m.len(),
+            lent.weights.e.as_mut_ptr(),
+            lent.weights.e.len(),
+            lent.shares.m.as_mut_ptr(),
+            lent.shares.m.len(),
+            lent.shares.e.as_mut_ptr(),
+            lent.shares.e.len(),
+            lent.answer.as_mut_ptr(),
+            lent.answer.len(),
         )
     };
-    if number != 0 {
-        return Err(Refusal::told(number, answer));
-    }
-    Ok(Solution {
-        bound: answer[0],
-        weights: scaled(&weight_m, &weight_e),
-        shares: scaled(&share_m, &share_e),
+    lent.solution(number)
+}
+
+/// Solves a chain and sums its shares by group, or gives the first refusal of 1, 2, 3, 4, 13, 12, 11 and 6, in this order.
+///
+/// A row of the table is a first state, a last state, and the group, 0 to 15, of all states from the first to the last. Each state
+/// is in one row; the rows stand in any order.
+///
+/// ```
+/// let chain = stall::read(&[2, 2, 3, 0, 0, 0, 1, 1, 0, 0, 0])?;
+/// let (running, stalled) = (0, 1);
+/// let solved = stall::solve_groups(&chain, &[[1, 1, running], [0, 0, stalled]])?;
+/// assert_eq!(solved.groups[running as usize].to_f64(), 0.75);
+/// assert_eq!(solved.groups[stalled as usize].to_f64(), 0.25);
+/// assert_eq!(solved.groups[2].to_f64(), 0.0);
+/// # Ok::<(), stall::Refusal>(())
+/// ```
+pub fn solve_groups(chain: &Chain, table: &[[u32; 3]]) -> Result<GroupSolution, Refusal> {
+    let (mut lent, mut groups) = (Lent::new(chain.order), Places::new(GROUPS));
+    let table = table.as_flattened();
+    // SAFETY: each pointer and length are those of one live slice; the mutable ones are different vectors and one array.
+    let number = unsafe {
+        sys::stall_solve_groups(
+            chain.order,
+            chain.starts.as_ptr(),
+            chain.starts.len(),
+            chain.columns.as_ptr(),
+            chain.columns.len(),
+            chain.rates.as_ptr(),
+            chain.rates.len(),
+            table.as_ptr(),
+            table.len(),
+            lent.work.m.as_mut_ptr(),
+            lent.work.m.len(),
+            lent.work.e.as_mut_ptr(),
+            lent.work.e.len(),
+            lent.weights.m.as_mut_ptr(),
+            lent.weights.m.len(),
+            lent.weights.e.as_mut_ptr(),
+            lent.weights.e.len(),
+            lent.shares.m.as_mut_ptr(),
+            lent.shares.m.len(),
+            lent.shares.e.as_mut_ptr(),
+            lent.shares.e.len(),
+            groups.m.as_mut_ptr(),
+            groups.m.len(),
+            groups.e.as_mut_ptr(),
+            groups.e.len(),
+            lent.answer.as_mut_ptr(),
+            lent.answer.len(),
+        )
+    };
+    Ok(GroupSolution {
+        solution: lent.solution(number)?,
+        groups: std::array::from_fn(|g| groups.number(g)),
     })
 }
 

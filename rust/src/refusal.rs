@@ -17,6 +17,13 @@ pub enum ChainReason {
     Room,
     /// 6: some state does not reach another.
     Unreached { from: usize, to: usize },
+    /// 11: a state is in no row of the group table; this is the lowest.
+    InNoRow { state: usize },
+    /// 12: a state is in two rows of the group table, or more; this is the lowest.
+    InTwoRows { state: usize },
+    /// 13: a row of the group table is cut short, has a first state above its last, a state of the order or more, or a group above
+    /// 15; this is the lowest.
+    TableRow { row: usize },
 }
 
 /// Why stored bytes are turned away.
@@ -42,7 +49,7 @@ pub enum Refusal {
 }
 
 impl Refusal {
-    /// The refusal's number: 1 to 6, or 8 to 10.
+    /// The refusal's number: 1 to 6, or 8 to 13.
     pub fn number(self) -> u32 {
         match self {
             Refusal::Chain(reason) => match reason {
@@ -52,6 +59,9 @@ impl Refusal {
                 ChainReason::Columns { .. } => 4,
                 ChainReason::Room => 5,
                 ChainReason::Unreached { .. } => 6,
+                ChainReason::InNoRow { .. } => 11,
+                ChainReason::InTwoRows { .. } => 12,
+                ChainReason::TableRow { .. } => 13,
             },
             Refusal::Bytes(reason) => match reason {
                 BytesReason::Order => 1,
@@ -63,11 +73,15 @@ impl Refusal {
         }
     }
 
-    /// The refusal's two places, 0 and 0 where it names none.
+    /// The refusal's two places, 0 where it names none.
     pub fn places(self) -> (usize, usize) {
         match self {
             Refusal::Chain(ChainReason::Columns { row, place }) => (row, place),
             Refusal::Chain(ChainReason::Unreached { from, to }) => (from, to),
+            Refusal::Chain(ChainReason::InNoRow { state } | ChainReason::InTwoRows { state }) => {
+                (state, 0)
+            }
+            Refusal::Chain(ChainReason::TableRow { row }) => (row, 0),
             Refusal::Bytes(BytesReason::Bit { row, bit }) => (row, bit),
             _ => (0, 0),
         }
@@ -89,6 +103,9 @@ impl Refusal {
                 from: first,
                 to: second,
             }),
+            (0, 11) => Refusal::Chain(ChainReason::InNoRow { state: first }),
+            (0, 12) => Refusal::Chain(ChainReason::InTwoRows { state: first }),
+            (0, 13) => Refusal::Chain(ChainReason::TableRow { row: first }),
             (1, 1) => Refusal::Bytes(BytesReason::Order),
             (1, 5) => Refusal::Bytes(BytesReason::Room),
             (1, 8) => Refusal::Bytes(BytesReason::Short),

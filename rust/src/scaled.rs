@@ -1,7 +1,7 @@
 //! Scaled numbers, the form of weights and shares.
 
-/// `m` × 2^`e`: `m` is from 2^31 to 2^32 - 1 and `e` from -16384 to 16383. This pair is the result itself; the conversions
-/// below are a convenience, rounded, and no contract speaks of them.
+/// `m` × 2^`e`: `m` is from 2^31 to 2^32 - 1 and `e` from -16384 to 16383. The share of a group may also be Zero, both 0. This
+/// pair is the result itself; the conversions below are a convenience, rounded, and no contract speaks of them.
 #[derive(Clone, Copy, Debug, PartialEq, Eq, Hash)]
 pub struct Scaled {
     pub m: u32,
@@ -17,7 +17,8 @@ impl Scaled {
         f64::from(self.m) * 2f64.powi(half) * 2f64.powi(self.e - half)
     }
 
-    /// Convenience: the decimal logarithm of the value, for values that an `f64` cannot hold.
+    /// Convenience: the decimal logarithm of the value, for values that an `f64` cannot hold. Of Zero it is negative
+    /// infinity.
     pub fn log10(self) -> f64 {
         f64::from(self.m).log10() + f64::from(self.e) * std::f64::consts::LOG10_2
     }

@@ -1,5 +1,5 @@
 //! The document's cases, refusals of every kind that a chain or bytes can meet here, round trips and the conversions.
-use stall::{read, solve, write, BytesReason, Chain, ChainReason, Refusal, Scaled};
+use stall::{read, solve, solve_groups, write, BytesReason, Chain, ChainReason, Refusal, Scaled};
 
 const CASE_2: [u8; 11] = [2, 2, 3, 0, 0, 0, 1, 1, 0, 0, 0];
 
@@ -26,6 +26,18 @@ fn refused(input: &Chain) -> ChainReason {
         Err(Refusal::Chain(reason)) => reason,
         other => panic!("{other:?}"),
     }
+}
+
+fn refused_table(input: &Chain, table: &[[u32; 3]]) -> ChainReason {
+    match solve_groups(input, table) {
+        Err(Refusal::Chain(reason)) => reason,
+        other => panic!("{other:?}"),
+    }
+}
+
+/// The ring of case 3.
+fn ring() -> Chain {
+    chain(3, &[(0, 1, 2), (1, 2, 4), (2, 0, 8)])
 }
 
 fn refused_bytes(bytes: &[u8]) -> BytesReason {
@@ -62,7 +74,7 @@ fn case_2_read_solved_and_written() {
 
 #[test]
 fn cases_3_and_4() {
-    let ring = solve(&chain(3, &[(0, 1, 2), (1, 2, 4), (2, 0, 8)])).unwrap();
+    let ring = solve(&ring()).unwrap();
     assert_eq!(ring.bound, 28);
     assert_eq!(
         pairs(&ring.weights),
@@ -87,6 +99,99 @@ fn case_10() {
     let bytes = write(&full).unwrap();
     assert_eq!(bytes.len(), stall::MAX_BYTES);
     assert_eq!(read(&bytes).unwrap(), full);
+}
+
+#[test]
+fn case_3_by_group() {
+    let solved = solve_groups(&ring(), &[[0, 1, 3], [2, 2, 15]]).unwrap();
+    assert_eq!(solved.solution, solve(&ring()).unwrap());
+    let mut expected = [(0, 0); stall::GROUPS];
+    expected[3] = (3681400539, -32);
+    expected[15] = (2454267026, -34);
+    assert_eq!(pairs(&solved.groups), expected);
+}
+
+#[test]
+fn summed_from_the_lowest_state_up() {
+    // Row by row, or from the highest state down, the last bit would be another.
+    let uneven = chain(3, &[(0, 1, 1), (1, 2, 1), (2, 0, 4)]);
+    let solved = solve_groups(&uneven, &[[1, 2, 7], [0, 0, 7]]).unwrap();
+    assert_eq!(pairs(&solved.groups[7..8]), [(4294967295, -32)]);
+}
+
+#[test]
+fn the_station_by_group() {
+    let examples = concat!(env!("CARGO_MANIFEST_DIR"), "/../examples");
+    let station = read(&std::fs::read(format!("{examples}/station.chain")).unwrap()).unwrap();
+    let text = std::fs::read_to_string(format!("{examples}/station.groups")).unwrap();
+    let rows = text.lines().filter_map(|line| {
+        let mut numbers = line.split('#').next()?.split_whitespace();
+        let row = [numbers.next()?, numbers.next()?, numbers.next()?];
+        Some(row.map(|number| number.parse().unwrap()))
+    });
+    let table: Vec<[u32; 3]> = rows.collect();
+    assert_eq!(table.len(), 3);
+    let groups = solve_groups(&station, &table).unwrap().groups;
+    // As the model in tests/ has them.
+    assert_eq!(
+        pairs(&groups[..4]),
+        [
+            (2154789546, -33),
+            (3208543074, -32),
+            (2311538946, -40),
+            (0, 0)
+        ]
+    );
+}
+
+#[test]
+fn tables_refused() {
+    let table = |rows: &[[u32; 3]]| refused_table(&ring(), rows);
+    let bad_row = |row| ChainReason::TableRow { row };
+    assert_eq!(table(&[[0, 1, 3], [2, 1, 0]]), bad_row(1));
+    assert_eq!(table(&[[0, 1, 3], [2, 3, 0]]), bad_row(1));
+    assert_eq!(table(&[[3, 3, 0], [0, 2, 16]]), bad_row(0));
+    assert_eq!(table(&[[0, 2, 16]]), bad_row(0));
+    assert_eq!(table(&[[0, 1, u32::MAX], [0, 0, 0]]), bad_row(0));
+    assert_eq!(
+        table(&[[0, 1, 0], [1, 2, 0]]),
+        ChainReason::InTwoRows { state: 1 }
+    );
+    assert_eq!(
+        table(&[[2, 2, 0], [2, 2, 0]]),
+        ChainReason::InTwoRows { state: 2 }
+    );
+    assert_eq!(
+        table(&[[0, 0, 0], [2, 2, 0]]),
+        ChainReason::InNoRow { state: 1 }
+    );
+    assert_eq!(table(&[]), ChainReason::InNoRow { state: 0 });
+    // The chain's rules come before the table, the table before 6.
+    let stuck = chain(2, &[(0, 1, 0), (1, 0, 5)]);
+    assert_eq!(
+        refused_table(&stuck, &[[0, 0, 0]]),
+        ChainReason::InNoRow { state: 1 }
+    );
+    assert_eq!(
+        refused_table(&stuck, &[[0, 1, 0]]),
+        ChainReason::Unreached { from: 0, to: 1 }
+    );
+    for order in [0, 65, usize::MAX] {
+        assert_eq!(
+            refused_table(&Chain { order, ..ring() }, &[[0, 0, 16]]),
+            ChainReason::Order
+        );
+    }
+    assert_eq!(
+        refused_table(
+            &Chain {
+                columns: vec![1, 1, 0],
+                ..ring()
+            },
+            &[[0, 0, 16]]
+        ),
+        ChainReason::Columns { row: 1, place: 1 }
+    );
 }
 
 #[test]
@@ -168,6 +273,10 @@ fn numbers_and_places() {
     let bit = read(&[2, 2, 3, 0, 0, 0, 4]).unwrap_err();
     assert_eq!((bit.number(), bit.places()), (9, (1, 2)));
     assert_eq!(read(&CASE_2[..3]).unwrap_err().to_string(), "refused 8 0 0");
+    let told = |rows: &[[u32; 3]]| solve_groups(&ring(), rows).unwrap_err().to_string();
+    assert_eq!(told(&[[0, 1, 0]]), "refused 11 2 0");
+    assert_eq!(told(&[[0, 2, 0], [1, 2, 0]]), "refused 12 1 0");
+    assert_eq!(told(&[[0, 2, 0], [1, 2, 16]]), "refused 13 1 0");
 }
 
 #[test]
@@ -226,6 +335,8 @@ fn conversions() {
         .to_f64(),
         f64::INFINITY
     );
+    let zero = Scaled { m: 0, e: 0 };
+    assert_eq!((zero.to_f64(), zero.log10()), (0.0, f64::NEG_INFINITY));
 }
 
 #[test]

@@ -1,4 +1,5 @@
--- Document 01, "Reasons for turning an input away": the number and the two places of every refusal, and whose fault it is.
+-- Document 01, "Reasons for turning an input away", with those that requests add: the number and the two places of every refusal, and
+-- whose fault it is.
 use Prim.Native.Nat.{ℕ}
 use mathlib.Core.List.{List}
 use lib.Seq.{sets}
@@ -24,6 +25,9 @@ chainLine chain.Starts = numbered 3 0 0
 chainLine (chain.Columns row place) = numbered 4 row place
 chainLine chain.Room = numbered 5 0 0
 chainLine (chain.Unreached from to) = numbered 6 from to
+chainLine (chain.InNoRow state) = numbered 11 state 0
+chainLine (chain.InTwoRows state) = numbered 12 state 0
+chainLine (chain.TableRow row) = numbered 13 row 0
 
 -- the table, for stored bytes
 abbrev pub bytesLine : BytesReason → Line

@@ -11,6 +11,12 @@ pub enum ChainReason {
     Room,
     // From, to.
     Unreached(usize, usize),
+    // A state that no row of the group table holds.
+    InNoRow(usize),
+    // A state that two rows of the group table hold.
+    InTwoRows(usize),
+    // A bad row of the group table.
+    TableRow(usize),
 }
 
 // Why stored bytes are turned away.
@@ -62,6 +68,9 @@ fn chain_line(reason: ChainReason) -> Line
         ChainReason::Columns(row, place) => table_line(4, row, place),
         ChainReason::Room => table_line(5, 0, 0),
         ChainReason::Unreached(from, to) => table_line(6, from, to),
+        ChainReason::InNoRow(state) => table_line(11, state, 0),
+        ChainReason::InTwoRows(state) => table_line(12, state, 0),
+        ChainReason::TableRow(row) => table_line(13, row, 0),
     }
 }
 

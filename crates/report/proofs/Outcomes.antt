@@ -31,7 +31,8 @@ use Rattle.report.specs.Report.{longest, solvedText, textAfter, reportOf
 use Rattle.report.proofs.EndToEnd.{end-to-end}
 use Rattle.report.proofs.Input.{input-suffices}
 use Rattle.report.proofs.Lengths.{answer-length}
-use Rattle.report.proofs.Texts.{lines-are, numbers-begin}
+use Rattle.solver.proofs.Tables.{numbers-begin}
+use Rattle.report.proofs.Texts.{lines-are}
 
 -- another name for the text
 puts-as : {out s text after : List ℕ} {count : ℕ} → s ≡ text → Puts out 0 s after count → Puts out 0 text after count

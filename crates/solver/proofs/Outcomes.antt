@@ -4,7 +4,7 @@ use mathlib.Core.Path.{_≡_, sym, ap, _∙_}
 use Prim.Native.Nat.{ℕ, _+_, _-_, _*_, _≤_, _<_}
 use native.Mathlib.Omega.{arith}
 use lib.IntN.{pos}
-use lib.ListN.{length, getD, take, drop, List·getD-append}
+use lib.ListN.{length, getD, take, drop}
 use lib.Seq.{length-take-le, sets-eq}
 use Rattle.refusal.specs.declared.Outcome.{Outcome}
 use Rattle.refusal.specs.declared.Outcome.the-variants.{Done, Refused}
@@ -15,7 +15,7 @@ use Rattle.markov.specs.Count.{boundCount}
 use Rattle.markov.specs.Promises.{AllFitShares}
 use Rattle.chain.specs.Rows.{Rows}
 use Rattle.scaled.specs.declared.Scaled.{Scaled}
-use Rattle.kernel.specs.Slices.{Slices, pair, numberAt}
+use Rattle.kernel.specs.Slices.{Slices, pair}
 use Rattle.kernel.specs.Numbers.{Fit, ops}
 use Rattle.kernel.specs.Kernel.{Sized}
 use Rattle.solver.specs.Lent.{Lent, enoughIn, Places}
@@ -24,9 +24,9 @@ use Rattle.elimination.specs.Inner.{matrixOf, Weighable, Ran}
 use Rattle.solver.proofs.Demands as demands
 use Rattle.solver.proofs.Ranges as ranges
 use Rattle.solver.proofs.Acceptance.{solved-says, solvable-accepted, accepted-solvable}
-use Rattle.basics.proofs.FillLaws.{length-replicate, table-length, table-at}
+use Rattle.basics.proofs.FillLaws.{length-replicate, table-length}
 use Rattle.elimination.proofs.Cleared.{both-equal}
-use Rattle.solver.proofs.Tables.{numbers-are}
+use Rattle.solver.proofs.Tables.{numbers-are, numbers-begin}
 
 -- ---- slices of which the first k places were lent and came back as s
 
@@ -47,7 +47,7 @@ after-done new old k q l g =
     rw q (ap (λ (i : ℕ). new ++ drop i old) e ∙ sym (sets-eq new old 0 (omega arith)))
 
 -- the first k places are as they came back, the others as they were
-back-done : {v : Verdict ℕ} {k j : ℕ} {s old new : Slices} → v ≡ accepts j → Places k old → Sized k new → s ≡ new → joined k s old ≡ afterIn v old new
+pub back-done : {v : Verdict ℕ} {k j : ℕ} {s old new : Slices} → v ≡ accepts j → Places k old → Sized k new → s ≡ new → joined k s old ≡ afterIn v old new
 back-done {k = k} {old = old} {new = new} q p z h =
     rw h
     (both-equal (after-done (new .m) (old .m) k q (z .size-m) (p .for-m)) (after-done (new .e) (old .e) k q (z .size-e) (p .for-e)))
@@ -55,17 +55,8 @@ back-done {k = k} {old = old} {new = new} q p z h =
 zeros-sized : (k : ℕ) → Sized k (zeros k)
 zeros-sized k = record { size-m = length-replicate 0 k; size-e = length-replicate (pos 0) k }
 
-numbers-sized : (n : ℕ) (f : ℕ → Scaled) → Sized n (numbers n f)
+pub numbers-sized : (n : ℕ) (f : ℕ → Scaled) → Sized n (numbers n f)
 numbers-sized n f = record { size-m = table-length 0 n _; size-e = table-length (pos 0) n _ }
-
--- the numbers in front
-front-number : (n : ℕ) (f : ℕ → Scaled) (old : Slices) {s : Slices} → s ≡ numbers n f → (i : ℕ) → i < n → numberAt (joined n s old) i ≡ f i
-unfolding numberAt
-front-number n f old h i l =
-    let z = numbers-sized n f in
-    let in-m = List·getD-append (numbers n f .m) (drop n (old .m)) 0 i (omega (arith, z .size-m)) in
-    let in-e = List·getD-append (numbers n f .e) (drop n (old .e)) (pos 0) i (omega (arith, z .size-e)) in
-    rw (h, in-m, in-e, table-at 0 n (λ i. f i .m) i l, table-at (pos 0) n (λ i. f i .e) i l)
 
 -- ---- what the elimination left, by the definitions of the contract
 
@@ -116,15 +107,16 @@ module _ {c : Rows} {old : Lent} {r : Outcome} (q : verdict r ≡ solved c (enou
     says = rw q (solved-says c old);
     acceptance = (λ h. q ∙ solvable-accepted c old h, λ a. accepted-solvable c old (sym q ∙ a));
     work = back-done a (h .room .for-work) (zeros-sized (n * n)) (ran .work);
-    weights = back-done a (h .room .for-weights) (numbers-sized n _) (ran-weights ran);
-    shares = back-done a (h .room .for-shares) (numbers-sized n _) (ran-shares ran);
+    weights = weights-left;
+    shares = shares-left;
     in-range = λ k p. ranges.in-range (h .sound) words (h .answer);
     balancing = λ s g. demands.balancing n _ (s .order .low) g;
     accurate = λ k p.
         let b = a in
         let e : boundCount n ≡ k = cc in
         rw (← e)
-        (accurate-cong (front-number n (weightsOf c) (old .weights) (ran-weights ran)) (front-number n (sharesOf c) (old .shares) (ran-shares ran))
+        (accurate-cong (numbers-begin n (weightsOf c) (verdict r) (old .weights) (h .room .for-weights) a weights-left)
+        (numbers-begin n (sharesOf c) (verdict r) (old .shares) (h .room .for-shares) a shares-left)
         (demands.accurate c (h .sound .order .low) (h .answer) (ranges.all-fit (h .sound) words (h .answer))));
   }
     where
@@ -137,15 +129,21 @@ module _ {c : Rows} {old : Lent} {r : Outcome} (q : verdict r ≡ solved c (enou
       a : verdict r ≡ accepts (boundCount n)
       a = q ∙ solvable-accepted c old h
 
+      weights-left : joined n (new .weights) (old .weights) ≡ afterIn (verdict r) (old .weights) (numbers n (weightsOf c))
+      weights-left = back-done a (h .room .for-weights) (numbers-sized n _) (ran-weights ran)
+
+      shares-left : joined n (new .shares) (old .shares) ≡ afterIn (verdict r) (old .shares) (numbers n (sharesOf c))
+      shares-left = back-done a (h .room .for-shares) (numbers-sized n _) (ran-shares ran)
+
 -- ---- the slices, cut to the needed places
 
 pub cut-long : {A : Type 0} (k : ℕ) (l : List A) → k ≤ length l → k ≡ length (take k l)
 cut-long k l h = sym (length-take-le k l h)
 
-abbrev cut : ℕ → Slices → Slices
+abbrev pub cut : ℕ → Slices → Slices
 cut k s = pair (take k (s .m)) (take k (s .e))
 
-cut-sized : {k : ℕ} {s : Slices} → Places k s → Sized k (cut k s)
+pub cut-sized : {k : ℕ} {s : Slices} → Places k s → Sized k (cut k s)
 cut-sized p = record { size-m = length-take-le _ _ (p .for-m); size-e = length-take-le _ _ (p .for-e) }
 
 pub runnable : {c : Rows} {l : Lent} → Solvable c l → ((p : ℕ) → getD (c .rates) p 0 < 4294967296)

@@ -12,12 +12,18 @@ use Rattle.storage.specs.Reading.{Read}
 use Rattle.storage.specs.Writing.{writeVerdict, Written}
 use Rattle.solver.specs.Lent.{Lent, enoughIn}
 use Rattle.solver.specs.Solve.{solved, Solved}
+use Rattle.group_shares.specs.GroupShares.{GroupLent, enoughFor, groupsSolved, GroupsSolved}
 use Rattle.stall.specs.Answer.{CountTold, ReadingTold}
 
 pub record SolveCalled (c : Rows) (old : Lent) (answer : List ℕ) (r : ℕ) (new : Lent) (answer′ : List ℕ) : Type 0 where
   pub outcome : Outcome
   pub call : Solved c old outcome new
   pub told : CountTold (solved c (enoughIn (c .order) old)) answer r answer′
+
+pub record GroupsCalled (c : Rows) (table : List ℕ) (old : GroupLent) (answer : List ℕ) (r : ℕ) (new : GroupLent) (answer′ : List ℕ) : Type 0 where
+  pub outcome : Outcome
+  pub call : GroupsSolved c table old outcome new
+  pub told : CountTold (groupsSolved c table (enoughFor (c .order) old)) answer r answer′
 
 pub record ReadCalled (bytes : List ℕ) (old : Buffers) (answer : List ℕ) (r : ℕ) (new : Buffers) (answer′ : List ℕ) : Type 0 where
   pub outcome : Reading

@@ -1,4 +1,4 @@
-// The three public calls, exported for C: a number is returned, and three places of a lent slice take the rest of the answer.
+// The public calls, exported for C: a number is returned, and three places of a lent slice take the rest of the answer.
 // `capi/stall.h` declares them. No call asks anything of its lent slices: any lengths do.
 ghost use mathlib.Core.List.{[], _∷_};
 ghost use mathlib.Core.Path.{_≡_};
@@ -7,8 +7,9 @@ ghost use Rattle.chain.specs.Rows.{inRows};
 ghost use Rattle.storage.specs.Reading.{told};
 ghost use Rattle.layout.specs.Buffers.{inBuffers};
 ghost use Rattle.solver.specs.Lent.{lent};
+ghost use Rattle.group_shares.specs.GroupShares.{groupLent};
 ghost use Rattle.stall.specs.Answer.{sideNumber, refusalPlaces, handed, Told, CountTold, ReadingTold};
-ghost use Rattle.stall.specs.Calls.{SolveCalled, ReadCalled, WriteCalled};
+ghost use Rattle.stall.specs.Calls.{SolveCalled, GroupsCalled, ReadCalled, WriteCalled};
 use refusal::Outcome;
 use refusal::Refusal;
 use storage::Reading;
@@ -87,6 +88,46 @@ pub extern "C" fn stall_solve(
         (lent (m .exit) (e .exit) (wm .exit) (we .exit) (sm .exit) (se .exit)) (now (answer .exit)) ⌝ }
 {
     let outcome = solver::solve(n, starts, columns, rates, m, e, wm, we, sm, se);
+    tell_count(outcome, answer)
+}
+
+// Solves a chain with a group table, as `group_shares::solve_groups` does: the answer's first place is the bound count.
+#[no_mangle]
+pub extern "C" fn stall_solve_groups(
+    n: usize,
+    starts: &[u32],
+    columns: &[u32],
+    rates: &[u32],
+    table: &[u32],
+    m: &mut [u32],
+    e: &mut [i32],
+    wm: &mut [u32],
+    we: &mut [i32],
+    sm: &mut [u32],
+    se: &mut [i32],
+    gm: &mut [u32],
+    ge: &mut [i32],
+    answer: &mut [usize],
+) -> u32
+    ensures { λ r. ⌜ GroupsCalled (inRows n (starts .entry) (columns .entry) (rates .entry)) (now (table .entry))
+        (groupLent (m .entry) (e .entry) (wm .entry) (we .entry) (sm .entry) (se .entry) (gm .entry) (ge .entry)) (now (answer .entry)) r
+        (groupLent (m .exit) (e .exit) (wm .exit) (we .exit) (sm .exit) (se .exit) (gm .exit) (ge .exit)) (now (answer .exit)) ⌝ }
+{
+    let outcome = group_shares::solve_groups(
+        n,
+        starts,
+        columns,
+        rates,
+        table,
+        m,
+        e,
+        wm,
+        we,
+        sm,
+        se,
+        gm,
+        ge,
+    );
     tell_count(outcome, answer)
 }
 

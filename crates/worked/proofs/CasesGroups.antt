@@ -1,0 +1,79 @@
+-- The shares of groups on case 3, by evaluation of the definitions, and what the bound says of these numbers, so that its theorem is not
+-- empty. Assumes nothing.
+use mathlib.Core.List.{List}
+use mathlib.Core.Path.{_≡_, refl, ap}
+use Prim.Native.Nat.{ℕ, zero, suc, _*_, _<_}
+use native.Mathlib.Omega.{arith}
+use lib.Dec.{lit<}
+use lib.ListN.{getD}
+use Rattle.basics.specs.Sum.{sum, prod}
+use Rattle.basics.specs.Below.{count, all, put}
+use Rattle.basics.specs.Near.{Near}
+use Rattle.basics.specs.Lists.{table}
+use Rattle.scaled.specs.declared.Scaled.{Scaled}
+use Rattle.scaled.specs.Scaled.{zeroNumber, bitLengthUpTo, bitLength, isScaledAt, cut, roundedSum, roundedProduct, roundedQuotient, converted, isScaled, sumOf, productOf, quotientOf, rateOf}
+use Rattle.scaled.specs.Units.{oneNumber, val, one, factor}
+use Rattle.markov.specs.Chain.{HasAnswer}
+use Rattle.markov.specs.Weight.{over, led, leads, moves, weight}
+use Rattle.markov.specs.Elimination as elimination
+use Rattle.markov.specs.Count.{boundCount}
+use Rattle.range.specs.Range.{picked}
+use Rattle.chain.specs.Rules.{startsSound, entryBad, columnsChecked, checked}
+use Rattle.chain.specs.Sound.{Sound}
+use Rattle.chain.specs.Meaning.{rateIn}
+use Rattle.reach.specs.Reach.{via}
+use Rattle.reach.specs.Answer.{allReached, answered}
+use Rattle.reach.proofs.AnswerLaws.{accepted-answer}
+use Rattle.kernel.specs.Numbers.{plus, times, dividedBy}
+use Rattle.solver.specs.Solve.{entries, weightsOf, sharesOf, solved, Accurate}
+use Rattle.solver.proofs.Demands.{accurate}
+use Rattle.solver.proofs.Ranges.{all-fit, in-range}
+use Rattle.groups.specs.Rules.{rowBad, holders, tableChecked, groupOf}
+use Rattle.group_shares.specs.GroupShares.{groupsSolved, groupSharesOf, groupWeight, GroupsAccurate}
+use Rattle.group_shares.proofs.Bound.{groups-accurate}
+use Rattle.worked.specs.Table.{chain3, scaled, minus}
+use Rattle.worked.specs.Groups.{table3, GroupCases}
+use Rattle.worked.proofs.Cases.{cases-hold}
+
+pub group-cases-hold : GroupCases
+unfolding groupsSolved groupSharesOf groupWeight tableChecked rowBad holders groupOf picked
+    solved table weightsOf sharesOf entries plus times dividedBy oneNumber
+    elimination.weights elimination.shares elimination.total elimination.pivotOf elimination.quotientAt elimination.next
+    bitLengthUpTo bitLength isScaledAt cut roundedSum roundedProduct roundedQuotient converted isScaled sumOf productOf quotientOf rateOf
+    weight over sum prod count put leads led all moves boundCount
+    checked startsSound columnsChecked entryBad rateIn answered allReached via
+group-cases-hold = record { accepted = refl; groups-are = refl; exact-3 = refl; exact-15 = refl; exact-0 = refl }
+
+-- ---- what the theorem asks
+
+has-answer-3 : Sound chain3 × HasAnswer 3 (rateIn chain3)
+unfolding answered allReached checked startsSound columnsChecked entryBad via rateIn sum
+has-answer-3 = accepted-answer chain3 refl
+
+words-3 : (p : ℕ) → getD (chain3 .rates) p 0 < 4294967296
+words-3 = elim [ zero ↦ lit< tt | suc zero ↦ lit< tt | suc (suc zero) ↦ lit< tt | suc (suc (suc p)) ↦ lit< tt ]
+
+accurate-3 : Accurate 3 (rateIn chain3) 28
+    (weightsOf chain3) (sharesOf chain3)
+accurate-3 =
+    let bound : boundCount 3 ≡ 28 = cases-hold .case-8 .2 in
+    rw bound at (accurate chain3 (omega arith) (has-answer-3 .1) (all-fit (has-answer-3 .0) words-3 (has-answer-3 .1)))
+
+groups-accurate-3 : GroupsAccurate 3 (rateIn chain3) table3 28 (groupSharesOf chain3 table3)
+groups-accurate-3 = groups-accurate chain3 table3 28 (in-range (has-answer-3 .0) words-3 (has-answer-3 .1)) (accurate-3 .shares-scaled) (accurate-3 .shares)
+
+-- ---- and what it says: within 2 × 28 + 2 × 3 factors of 48 / 56 and 8 / 56
+
+exact-sum : sum 3 (weight 3 (rateIn chain3)) ≡ 56
+unfolding weight over sum prod count put leads led all moves rateIn
+exact-sum = refl
+
+pub group-3-near : Near factor 62 (val (scaled 3681400539 (minus 32)) * 56) (one * 48)
+group-3-near =
+    let share : groupSharesOf chain3 table3 3 ≡ scaled 3681400539 (minus 32) = unfold table in ap (λ (xs : List Scaled). getD xs 3 zeroNumber) (group-cases-hold .groups-are) in
+    rw (share, exact-sum, group-cases-hold .exact-3) at (groups-accurate-3 .near 3 (omega arith))
+
+pub group-15-near : Near factor 62 (val (scaled 2454267026 (minus 34)) * 56) (one * 8)
+group-15-near =
+    let share : groupSharesOf chain3 table3 15 ≡ scaled 2454267026 (minus 34) = unfold table in ap (λ (xs : List Scaled). getD xs 15 zeroNumber) (group-cases-hold .groups-are) in
+    rw (share, exact-sum, group-cases-hold .exact-15) at (groups-accurate-3 .near 15 (omega arith))
