@@ -20,10 +20,10 @@ use Rattle.reach.proofs.AnswerLaws.{answered-says, says-answered, answer-accept
 use Rattle.solver.specs.Lent.{enoughIn}
 use Rattle.solver.specs.Solve.{solved}
 use Rattle.solver.proofs.Room.{roomy, roomy-held}
-use Rattle.groups.specs.Rules.{tableChecked}
-use Rattle.groups.specs.Sums.{groupPlaces}
-use Rattle.groups.specs.Sound as table
-use Rattle.groups.proofs.Reading as tables
+use Rattle.group_table.specs.Rules.{tableChecked}
+use Rattle.group_table.specs.Sums.{groupPlaces}
+use Rattle.group_table.specs.Sound as table
+use Rattle.group_table.proofs.Reading as tables
 use Rattle.group_shares.specs.GroupShares.{GroupLent, enoughFor, GroupRoomy, groupsSolved, GroupsSolvable, GroupsSay, rule-broken, table-broken, no-room, unreached, solves}
 
 -- ---- the room

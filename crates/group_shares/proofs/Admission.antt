@@ -17,7 +17,7 @@ use Rattle.refusal.proofs.VerdictLaws.{accepted-if, accepted-then}
 use Rattle.chain.specs.Rows.{Rows}
 use Rattle.chain.specs.Rules.{checked}
 use Rattle.chain.proofs.Reading.{accepted-sound}
-use Rattle.groups.specs.Rules.{tableChecked}
+use Rattle.group_table.specs.Rules.{tableChecked}
 use Rattle.solver.specs.Solve.{solved}
 use Rattle.group_shares.specs.GroupShares.{groupsSolved}
 use Rattle.group_shares.specs.Inner.{passes, suits, admitted}

@@ -20,7 +20,7 @@ use Rattle.chain.specs.Meaning.{rateIn}
 use Rattle.kernel.specs.Numbers.{Fit}
 use Rattle.solver.specs.Solve.{sharesOf, AllInside}
 use Rattle.solver.proofs.Operations.{promises}
-use Rattle.groups.specs.Sums.{inGroup, groupShare}
+use Rattle.group_table.specs.Sums.{inGroup, groupShare}
 use Rattle.group_shares.specs.GroupShares.{groupSharesOf, groupWeight, GroupsAccurate}
 
 -- equal numbers have equal sums

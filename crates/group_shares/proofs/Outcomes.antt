@@ -20,7 +20,7 @@ use Rattle.solver.specs.Solve.{weightsOf, sharesOf, numbers, zeros, afterIn, So
 use Rattle.solver.proofs.Demands as demands
 use Rattle.solver.proofs.Outcomes.{joined, back-done, numbers-sized, cut, cut-sized}
 use Rattle.solver.proofs.Tables.{numbers-are, numbers-begin}
-use Rattle.groups.specs.Sums.{groupPlaces, inGroup, groupShare}
+use Rattle.group_table.specs.Sums.{groupPlaces, inGroup, groupShare}
 use Rattle.groups.specs.Inner.{Summable}
 use Rattle.group_shares.specs.GroupShares.{GroupLent, enoughFor, groupsSolved, groupSharesOf, GroupsSolvable, GroupsAccurate, GroupsSolved}
 use Rattle.group_shares.specs.Inner.{suits, admitted}

@@ -26,9 +26,9 @@ use Rattle.reach.specs.Answer.{LowestPair}
 use Rattle.kernel.specs.Slices.{Slices, slices, numberAt}
 use Rattle.solver.specs.Lent.{Lent, lent, bothHave, enoughIn, Places, Roomy}
 use Rattle.solver.specs.Solve.{weightsOf, sharesOf, solved, numbers, zeros, afterIn, Balancing, Accurate, AllInside}
-use Rattle.groups.specs.Rules.{tableChecked}
-use Rattle.groups.specs.Sound.{SoundTable, TableSays}
-use Rattle.groups.specs.Sums.{groupPlaces, inGroup, groupShare}
+use Rattle.group_table.specs.Rules.{tableChecked}
+use Rattle.group_table.specs.Sound.{SoundTable, TableSays}
+use Rattle.group_table.specs.Sums.{groupPlaces, inGroup, groupShare}
 
 -- ---- the lent places: those of `solve`, and two slices for the shares of the groups
 

@@ -6,7 +6,7 @@ use lib.Dec.{leb}
 use Rattle.refusal.specs.Table.{Verdict, accepts, refuses, of-chain, numbered, andThen}
 use Rattle.chain.specs.Rows.{Rows}
 use Rattle.chain.specs.Rules.{checked}
-use Rattle.groups.specs.Rules.{tableChecked}
+use Rattle.group_table.specs.Rules.{tableChecked}
 
 abbrev pub passes : Verdict ℕ → Bool
 passes (accepts given) = true

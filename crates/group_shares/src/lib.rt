@@ -3,7 +3,7 @@ ghost use mathlib.Core.Path.{_≡_};
 ghost use Rattle.refusal.specs.Table.{verdict};
 ghost use Rattle.chain.specs.Rows.{inRows};
 ghost use Rattle.solver.specs.Lent.{bothHave};
-ghost use Rattle.groups.specs.Sums.{groupPlaces};
+ghost use Rattle.group_table.specs.Sums.{groupPlaces};
 ghost use Rattle.group_shares.specs.GroupShares.{groupLent, GroupsSolved};
 ghost use Rattle.group_shares.specs.Inner.{suits, admitted};
 use refusal::ChainReason;

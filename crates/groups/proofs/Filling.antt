@@ -16,10 +16,10 @@ use Rattle.basics.specs.First.{first}
 use Rattle.basics.proofs.SumLaws.{sum-zero, sum-last, sum-most}
 use Rattle.basics.proofs.FirstLaws.{first-cong}
 use Rattle.basics.proofs.FillLaws.{getD-replicate, length-replicate}
-use Rattle.groups.specs.Rules.{rowCount, firstState, lastState, groupNumber, holds, holders, inTwoRows, inNoRow, firstInTwo, firstInNone}
-use Rattle.groups.specs.Sound.{Held, SoundTable}
+use Rattle.group_table.specs.Rules.{rowCount, firstState, lastState, groupNumber, holds, holders, inTwoRows, inNoRow, firstInTwo, firstInNone}
+use Rattle.group_table.specs.Sound.{Held, SoundTable}
 use Rattle.groups.specs.Inner.{Changed, Counted, LookedUp}
-use Rattle.groups.proofs.StateLaws.{held-true, not-held, group-is}
+use Rattle.group_table.proofs.StateLaws.{held-true, not-held, group-is}
 
 -- the places from `from` up to, not including, `to` were mapped by f, the others are as they were
 pub record Mapped (f : ℕ → ℕ) (from to : ℕ) (l l′ : List ℕ) : Type 0 where

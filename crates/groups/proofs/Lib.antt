@@ -1,8 +1,3 @@
--- Laws of group tables and of the shares of groups.
-pub mod Counting
-pub mod RowLaws
-pub mod StateLaws
-pub mod Reading
+-- Laws of the counts, of the look-up and of the sums, one row or one share at a time.
 pub mod Filling
 pub mod Summing
-pub mod Cases

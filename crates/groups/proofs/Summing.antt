@@ -14,10 +14,10 @@ use Rattle.scaled.specs.declared.Scaled.{Scaled}
 use Rattle.kernel.specs.Numbers.{Fit, plus}
 use Rattle.kernel.specs.Slices.{Slices, numberAt}
 use Rattle.kernel.specs.Inner.{Placed}
-use Rattle.groups.specs.Rules.{groupOf}
-use Rattle.groups.specs.Sound.{SoundTable}
-use Rattle.groups.specs.Sums.{groupShare}
-use Rattle.groups.proofs.StateLaws.{group-is}
+use Rattle.group_table.specs.Rules.{groupOf}
+use Rattle.group_table.specs.Sound.{SoundTable}
+use Rattle.group_table.specs.Sums.{groupShare}
+use Rattle.group_table.proofs.StateLaws.{group-is}
 
 -- a group's number is below 16
 pub group-below : {n : ℕ} {table : List ℕ} → SoundTable n table → (state : ℕ) → state < n → groupOf table state < 16

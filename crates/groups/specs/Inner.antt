@@ -6,9 +6,9 @@ use lib.ListN.{length, getD}
 use Rattle.kernel.specs.Numbers.{Fit}
 use Rattle.kernel.specs.Slices.{Slices, numberAt}
 use Rattle.kernel.specs.Kernel.{Sized}
-use Rattle.groups.specs.Rules.{holders, groupOf}
-use Rattle.groups.specs.Sound.{SoundTable}
-use Rattle.groups.specs.Sums.{groupShare}
+use Rattle.group_table.specs.Rules.{holders, groupOf}
+use Rattle.group_table.specs.Sound.{SoundTable}
+use Rattle.group_table.specs.Sums.{groupShare}
 
 -- the places from `from` to `to` were mapped by f, the others are as they were
 pub record Changed (f : ℕ → ℕ) (from to : ℕ) (l l′ : List ℕ) : Type 0 where

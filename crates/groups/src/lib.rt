@@ -10,9 +10,9 @@ ghost use Rattle.kernel.specs.Numbers.{Fit, plus};
 ghost use Rattle.kernel.specs.Slices.{slices, numberAt};
 ghost use Rattle.kernel.specs.Kernel.{Holds};
 ghost use Rattle.kernel.specs.Inner.{Placed};
-ghost use Rattle.groups.specs.Rules.{rowCount, rowBad, firstBadRow, tableChecked};
-ghost use Rattle.groups.specs.Sound.{SoundRows, SoundTable, TableSays};
-ghost use Rattle.groups.specs.Sums.{groupShare};
+ghost use Rattle.group_table.specs.Rules.{rowCount, rowBad, firstBadRow, tableChecked};
+ghost use Rattle.group_table.specs.Sound.{SoundRows, SoundTable, TableSays};
+ghost use Rattle.group_table.specs.Sums.{groupShare};
 ghost use Rattle.groups.specs.Inner.{Changed, Counted, LookedUp, Summable};
 use refusal::ChainReason;
 use refusal::Outcome;
@@ -129,7 +129,7 @@ fn first_in_none(n: usize, seen: &[usize]) -> usize
 }
 
 // Checks a table for a chain of n states: 13, then 12, then 11, or the number of rows, and what that says of the table. No other verdict
-// has facts that hold: `says-checked` of proofs/Reading.
+// has facts that hold: `says-checked` of `group_table`.
 pub fn check_table(n: usize, table: &[u32]) -> Outcome
     requires { ⌜ n ≤ 64 ⌝ }
     ensures computed { λ r. ⌜ verdict r ≡ tableChecked n (now (table .entry)) ⌝ }

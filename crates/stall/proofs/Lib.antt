@@ -1,2 +1,2 @@
--- Laws of the answer slice.
-pub mod Answers
+-- The exported calls from the calls within.
+pub mod Calls

@@ -13,7 +13,7 @@ use Rattle.storage.specs.Writing.{writeVerdict, Written}
 use Rattle.solver.specs.Lent.{Lent, enoughIn}
 use Rattle.solver.specs.Solve.{solved, Solved}
 use Rattle.group_shares.specs.GroupShares.{GroupLent, enoughFor, groupsSolved, GroupsSolved}
-use Rattle.stall.specs.Answer.{CountTold, ReadingTold}
+use Rattle.telling.specs.Answer.{CountTold, ReadingTold}
 
 pub record SolveCalled (c : Rows) (old : Lent) (answer : List ℕ) (r : ℕ) (new : Lent) (answer′ : List ℕ) : Type 0 where
   pub outcome : Outcome

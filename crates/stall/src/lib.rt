@@ -1,72 +1,10 @@
 // The public calls, exported for C: a number is returned, and three places of a lent slice take the rest of the answer.
 // `capi/stall.h` declares them. No call asks anything of its lent slices: any lengths do.
-ghost use mathlib.Core.List.{[], _∷_};
-ghost use mathlib.Core.Path.{_≡_};
-ghost use Rattle.refusal.specs.Table.{side, line, verdict};
 ghost use Rattle.chain.specs.Rows.{inRows};
-ghost use Rattle.storage.specs.Reading.{told};
 ghost use Rattle.layout.specs.Buffers.{inBuffers};
 ghost use Rattle.solver.specs.Lent.{lent};
 ghost use Rattle.group_shares.specs.GroupShares.{groupLent};
-ghost use Rattle.stall.specs.Answer.{sideNumber, refusalPlaces, handed, Told, CountTold, ReadingTold};
 ghost use Rattle.stall.specs.Calls.{SolveCalled, GroupsCalled, ReadCalled, WriteCalled};
-use refusal::Outcome;
-use refusal::Refusal;
-use storage::Reading;
-
-// Three numbers into the first three places of the answer slice, if it has them.
-fn put(answer: &mut [usize], first: usize, second: usize, third: usize)
-    ensures { λ _. ⌜ now (answer .exit) ≡ handed (now (answer .entry)) (first ∷ second ∷ third ∷ []) ⌝ }
-{
-    if 3 <= answer.len() {
-        answer[0] = first;
-        answer[1] = second;
-        answer[2] = third;
-    }
-}
-
-// The side at fault: 0 the chain, 1 the stored bytes.
-fn side_number(refusal: Refusal) -> usize
-    ensures { λ r. ⌜ r ≡ sideNumber (side refusal) ⌝ }
-{
-    match refusal {
-        Refusal::Chain(_) => 0,
-        Refusal::Bytes(_) => 1,
-    }
-}
-
-// A refusal's number is returned; its places and the side at fault go to the answer slice.
-fn tell_refusal(refusal: Refusal, answer: &mut [usize]) -> u32
-    ensures { λ r. ⌜ Told (line refusal .number) (refusalPlaces (side refusal) (line refusal)) (now (answer .entry)) r (now (answer .exit)) ⌝ }
-{
-    let listed = refusal::listed(refusal);
-    put(answer, listed.first, listed.second, side_number(refusal));
-    listed.number
-}
-
-fn tell_count(outcome: Outcome, answer: &mut [usize]) -> u32
-    ensures { λ r. ⌜ CountTold (verdict outcome) (now (answer .entry)) r (now (answer .exit)) ⌝ }
-{
-    match outcome {
-        Outcome::Refused(refusal) => tell_refusal(refusal, answer),
-        Outcome::Done(count) => {
-            put(answer, count, 0, 0);
-            0
-        }
-    }
-}
-
-fn tell_reading(reading: Reading, answer: &mut [usize]) -> u32
-    ensures { λ r. ⌜ ReadingTold (told reading) (now (answer .entry)) r (now (answer .exit)) ⌝ }
-{
-    match reading {
-        Reading::Refused(refusal) => tell_refusal(refusal, answer),
-        Reading::Chain { order, entries } => {
-            put(answer, order, entries, 0);
-            0
-        }
-    }
-}
 
 // Solves a chain, as `solver::solve` does: the answer's first place is the bound count.
 #[no_mangle]
@@ -88,7 +26,7 @@ pub extern "C" fn stall_solve(
         (lent (m .exit) (e .exit) (wm .exit) (we .exit) (sm .exit) (se .exit)) (now (answer .exit)) ⌝ }
 {
     let outcome = solver::solve(n, starts, columns, rates, m, e, wm, we, sm, se);
-    tell_count(outcome, answer)
+    telling::tell_count(outcome, answer)
 }
 
 // Solves a chain with a group table, as `group_shares::solve_groups` does: the answer's first place is the bound count.
@@ -128,7 +66,7 @@ pub extern "C" fn stall_solve_groups(
         gm,
         ge,
     );
-    tell_count(outcome, answer)
+    telling::tell_count(outcome, answer)
 }
 
 // Reads a stored chain, as `storage::read` does: the answer's first two places are the order and the number of entries.
@@ -144,7 +82,7 @@ pub extern "C" fn stall_read(
         (inBuffers (starts .exit) (columns .exit) (rates .exit)) (now (answer .exit)) ⌝ }
 {
     let reading = storage::read(bytes, starts, columns, rates);
-    tell_reading(reading, answer)
+    telling::tell_reading(reading, answer)
 }
 
 // Stores a chain, as `storage::write` does: the answer's first place is the number of bytes.
@@ -161,5 +99,5 @@ pub extern "C" fn stall_write(
         (now (out .exit)) (now (answer .exit)) ⌝ }
 {
     let outcome = storage::write(n, starts, columns, rates, out);
-    tell_count(outcome, answer)
+    telling::tell_count(outcome, answer)
 }

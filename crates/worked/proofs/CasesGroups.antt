@@ -28,7 +28,7 @@ use Rattle.kernel.specs.Numbers.{plus, times, dividedBy}
 use Rattle.solver.specs.Solve.{entries, weightsOf, sharesOf, solved, Accurate}
 use Rattle.solver.proofs.Demands.{accurate}
 use Rattle.solver.proofs.Ranges.{all-fit, in-range}
-use Rattle.groups.specs.Rules.{rowBad, holders, tableChecked, groupOf}
+use Rattle.group_table.specs.Rules.{rowBad, holders, tableChecked, groupOf}
 use Rattle.group_shares.specs.GroupShares.{groupsSolved, groupSharesOf, groupWeight, GroupsAccurate}
 use Rattle.group_shares.proofs.Bound.{groups-accurate}
 use Rattle.worked.specs.Table.{chain3, scaled, minus}

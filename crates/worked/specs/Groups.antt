@@ -6,7 +6,7 @@ use Rattle.refusal.specs.Table.{accepts}
 use Rattle.scaled.specs.declared.Scaled.{Scaled}
 use Rattle.scaled.specs.Scaled.{zeroNumber}
 use Rattle.basics.specs.Lists.{table}
-use Rattle.groups.specs.Sums.{groupPlaces}
+use Rattle.group_table.specs.Sums.{groupPlaces}
 use Rattle.group_shares.specs.GroupShares.{groupsSolved, groupSharesOf, groupWeight}
 use Rattle.chain.specs.Meaning.{rateIn}
 use Rattle.worked.specs.Table.{chain3, scaled, minus}

@@ -2,7 +2,7 @@
 use mathlib.Core.Path.{ap, sym}
 use Rattle.basics.proofs.BoolLaws.{passed, failed}
 use Rattle.refusal.specs.Table.{verdict}
-use Rattle.groups.specs.Sums.{groupPlaces}
+use Rattle.group_table.specs.Sums.{groupPlaces}
 use Rattle.groups.specs.Inner.{Summable}
 use Rattle.solver.specs.Lent.{Lent, Places}
 use Rattle.solver.proofs.Outcomes.{cut}

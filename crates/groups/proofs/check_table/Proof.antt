@@ -4,8 +4,8 @@ use mathlib.Core.Path.{ap, _∙_}
 use native.Mathlib.Omega.{arith}
 use borrow.Author.Needs.{needs}
 use Rattle.refusal.specs.Table.{accepts}
-use Rattle.groups.specs.Rules.{rowCount, firstBadRow}
-use Rattle.groups.proofs.Reading.{rows-sound, check-means, refuse-13, refuse-12, refuse-11, accept}
+use Rattle.group_table.specs.Rules.{rowCount, firstBadRow}
+use Rattle.group_table.proofs.Reading.{rows-sound, check-means, refuse-13, refuse-12, refuse-11, accept}
 use Rattle.groups.proofs.Filling.{counted-none, two-counted, none-counted}
 use Rattle.groups.proofs.check_table.Statement.{statement}
 use Rattle.groups.proofs.check_table.Tie as tie

@@ -3,7 +3,7 @@ use Prim.Native.Nat.{_≤_, _-_}
 use mathlib.Core.Path.{_≡_, sym, _∙_}
 use native.Mathlib.Omega.{arith}
 use borrow.Author.Needs.{needs}
-use Rattle.groups.specs.Sound.{SoundRow}
+use Rattle.group_table.specs.Sound.{SoundRow}
 use Rattle.groups.specs.Inner.{Counted}
 use Rattle.groups.proofs.Filling.{holders-most, counted-next}
 use Rattle.groups.proofs.count_rows.Statement.{statement}

@@ -5,7 +5,7 @@ use native.Mathlib.Omega.{arith}
 use borrow.Author.Needs.{needs}
 use Rattle.basics.specs.First.{first}
 use Rattle.basics.proofs.FirstLaws.{first-end, first-here, first-next}
-use Rattle.groups.specs.Rules.{rowCount, rowBad, firstBadRow}
+use Rattle.group_table.specs.Rules.{rowCount, rowBad, firstBadRow}
 use Rattle.groups.proofs.first_bad_row.Statement.{statement}
 use Rattle.groups.proofs.first_bad_row.Tie as tie
 

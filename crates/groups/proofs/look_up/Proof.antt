@@ -4,8 +4,8 @@ use mathlib.Core.Path.{_≡_, sym, _∙_}
 use native.Mathlib.Omega.{arith}
 use borrow.Author.Needs.{needs}
 use lib.ListN.{length}
-use Rattle.groups.specs.Rules.{rowCount}
-use Rattle.groups.specs.Sound.{SoundRow}
+use Rattle.group_table.specs.Rules.{rowCount}
+use Rattle.group_table.specs.Sound.{SoundRow}
 use Rattle.groups.proofs.Filling.{Filled, filled-none, filled-next, filled-end}
 use Rattle.groups.proofs.look_up.Statement.{statement}
 use Rattle.groups.proofs.look_up.Tie as tie

@@ -1,8 +1,8 @@
 use mathlib.Core.Path.{sym}
 use native.Mathlib.Omega.{arith}
 use borrow.Author.Needs.{needs}
-use Rattle.groups.specs.Sound.{cut-short, first-above-last, last-too-high}
-use Rattle.groups.proofs.RowLaws.{fault-bad, group-decides}
+use Rattle.group_table.specs.Sound.{cut-short, first-above-last, last-too-high}
+use Rattle.group_table.proofs.RowLaws.{fault-bad, group-decides}
 use Rattle.groups.proofs.row_bad.Statement.{statement}
 use Rattle.groups.proofs.row_bad.Tie as tie
 

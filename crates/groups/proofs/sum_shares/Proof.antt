@@ -9,8 +9,8 @@ use Rattle.basics.proofs.FillLaws.{length-replicate}
 use Rattle.kernel.specs.Slices.{pair, numberAt}
 use Rattle.kernel.specs.Kernel.{Sized}
 use Rattle.kernel.proofs.Places.{still-sized}
-use Rattle.groups.specs.Rules.{groupOf}
-use Rattle.groups.specs.Sums.{groupShare}
+use Rattle.group_table.specs.Rules.{groupOf}
+use Rattle.group_table.specs.Sums.{groupShare}
 use Rattle.groups.proofs.Summing.{group-below, shares-none, next-fits, shares-next}
 use Rattle.groups.proofs.sum_shares.Statement.{statement}
 use Rattle.groups.proofs.sum_shares.Tie as tie

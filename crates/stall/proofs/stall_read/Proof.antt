@@ -1,5 +1,5 @@
 -- `stall_read`: what the call within promises, and the answer by its verdict. Assumes nothing.
-use Rattle.stall.proofs.Answers.{read-called}
+use Rattle.stall.proofs.Calls.{read-called}
 use borrow.Author.Needs.{needs}
 use Rattle.stall.proofs.stall_read.Statement.{statement}
 use Rattle.stall.proofs.stall_read.Tie as tie

@@ -1,5 +1,5 @@
 -- `stall_solve`: what the call within promises, and the answer by its verdict. Assumes nothing.
-use Rattle.stall.proofs.Answers.{solve-called}
+use Rattle.stall.proofs.Calls.{solve-called}
 use borrow.Author.Needs.{needs}
 use Rattle.stall.proofs.stall_solve.Statement.{statement}
 use Rattle.stall.proofs.stall_solve.Tie as tie

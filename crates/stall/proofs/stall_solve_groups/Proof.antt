@@ -1,5 +1,5 @@
 -- `stall_solve_groups`: what the call within promises, and the answer by its verdict. Assumes nothing.
-use Rattle.stall.proofs.Answers.{groups-called}
+use Rattle.stall.proofs.Calls.{groups-called}
 use borrow.Author.Needs.{needs}
 use Rattle.stall.proofs.stall_solve_groups.Statement.{statement}
 use Rattle.stall.proofs.stall_solve_groups.Tie as tie

@@ -1,5 +1,5 @@
 -- `stall_write`: what the call within promises, and the answer by its verdict. Assumes nothing.
-use Rattle.stall.proofs.Answers.{write-called}
+use Rattle.stall.proofs.Calls.{write-called}
 use borrow.Author.Needs.{needs}
 use Rattle.stall.proofs.stall_write.Statement.{statement}
 use Rattle.stall.proofs.stall_write.Tie as tie

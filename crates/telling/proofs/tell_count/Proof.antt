@@ -1,8 +1,8 @@
 -- `tell_count`: each case is told as the specification has it. Assumes nothing.
 use mathlib.Core.Path.{refl}
 use borrow.Author.Needs.{needs}
-use Rattle.stall.proofs.tell_count.Statement.{statement}
-use Rattle.stall.proofs.tell_count.Tie as tie
+use Rattle.telling.proofs.tell_count.Statement.{statement}
+use Rattle.telling.proofs.tell_count.Tie as tie
 
 returns : tie.Need-returns
 returns c = rw (c .before .before .before .before .before .outcome .given .1) (c .before .before .tell-refusal .ensures)

@@ -3,10 +3,10 @@ use mathlib.Core.List.{[], _∷_}
 use mathlib.Core.Path.{ap, ap₂, _∙_}
 use Prim.Native.Nat.{ℕ}
 use Rattle.refusal.specs.declared.Line.{Line}
-use Rattle.stall.specs.Answer.{handed}
+use Rattle.telling.specs.Answer.{handed}
 use borrow.Author.Needs.{needs}
-use Rattle.stall.proofs.tell_refusal.Statement.{statement}
-use Rattle.stall.proofs.tell_refusal.Tie as tie
+use Rattle.telling.proofs.tell_refusal.Statement.{statement}
+use Rattle.telling.proofs.tell_refusal.Tie as tie
 
 returns : tie.Need-returns
 returns c =

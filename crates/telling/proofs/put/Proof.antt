@@ -1,10 +1,10 @@
 -- `put` writes the three places where there is room, and nothing otherwise. Assumes nothing.
 use native.Mathlib.Omega.{arith}
 use lib.ListN.{length-set}
-use Rattle.stall.proofs.Answers.{three-put, none-put}
+use Rattle.telling.proofs.Answers.{three-put, none-put}
 use borrow.Author.Needs.{needs}
-use Rattle.stall.proofs.put.Statement.{statement}
-use Rattle.stall.proofs.put.Tie as tie
+use Rattle.telling.proofs.put.Statement.{statement}
+use Rattle.telling.proofs.put.Tie as tie
 
 slice-write-answer-2 : tie.Need-slice-write-answer-2
 slice-write-answer-2 c = omega (arith, c .if1 .taken, length-set (c .before .args .answer .now) 0 (c .before .args .first))

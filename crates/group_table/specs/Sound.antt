@@ -4,7 +4,7 @@ use mathlib.Core.List.{List}
 use mathlib.Core.Path.{_≡_}
 use lib.ListN.{length}
 use Rattle.refusal.specs.Table.{Verdict, accepts, refuses, of-chain, numbered}
-use Rattle.groups.specs.Rules.{rowCount, firstState, lastState, groupNumber}
+use Rattle.group_table.specs.Rules.{rowCount, firstState, lastState, groupNumber}
 
 -- a row of three numbers, its states below n in order, its group 0 to 15
 pub record SoundRow (n : ℕ) (table : List ℕ) (row : ℕ) : Type 0 where

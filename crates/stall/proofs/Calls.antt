@@ -1,11 +1,7 @@
--- The answer slice, and an exported call from the call within. Assumes nothing.
-use mathlib.Core.Bool.{Bool, cond}
-use mathlib.Core.List.{List, [], _∷_}
-use mathlib.Core.Path.{_≡_, ap, sym, subst}
-use Prim.Native.Nat.{ℕ, _<_, _≤_}
-use lib.ListN.{length, set}
-use lib.Seq.{sets}
-use borrow.Author.Tests.{le-leb, lt-leb}
+-- An exported call from the call within. Assumes nothing.
+use mathlib.Core.List.{List}
+use mathlib.Core.Path.{subst}
+use Prim.Native.Nat.{ℕ}
 use Rattle.refusal.specs.declared.Outcome.{Outcome}
 use Rattle.refusal.specs.Table.{Verdict, verdict}
 use Rattle.chain.specs.Rows.{Rows}
@@ -16,19 +12,8 @@ use Rattle.storage.specs.Writing.{Written}
 use Rattle.solver.specs.Lent.{Lent}
 use Rattle.solver.specs.Solve.{Solved}
 use Rattle.group_shares.specs.GroupShares.{GroupLent, GroupsSolved}
-use Rattle.stall.specs.Answer.{handed, CountTold, ReadingTold}
+use Rattle.telling.specs.Answer.{CountTold, ReadingTold}
 use Rattle.stall.specs.Calls.{SolveCalled, GroupsCalled, ReadCalled, WriteCalled}
-
--- a slice with room takes the three places, a shorter one is kept
-pub three-put : (a : List ℕ) (first second third : ℕ) → 3 ≤ length a → set (set (set a 0 first) 1 second) 2 third ≡ handed a (first ∷ second ∷ third ∷ [])
-unfolding handed
-three-put a first second third h = sym (ap (λ (b : Bool). cond b (sets a 0 (first ∷ second ∷ third ∷ [])) a) (le-leb 3 (length a) h))
-
-pub none-put : (a places : List ℕ) → length a < 3 → a ≡ handed a places
-unfolding handed
-none-put a places h = sym (ap (λ (b : Bool). cond b (sets a 0 places) a) (lt-leb 3 (length a) h))
-
--- ---- the calls
 
 module _ {answer : List ℕ} {r : ℕ} {answer′ : List ℕ} where
   pub solve-called : {c : Rows} {old : Lent} {o : Outcome} {new : Lent} → Solved c old o new → CountTold (verdict o) answer r answer′ → SolveCalled c old answer r new answer′

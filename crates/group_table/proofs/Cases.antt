@@ -10,8 +10,8 @@ use Rattle.range.specs.Range.{picked}
 use Rattle.scaled.specs.declared.Scaled.{Scaled}
 use Rattle.scaled.specs.Scaled.{zeroNumber}
 use Rattle.kernel.specs.Numbers.{plus}
-use Rattle.groups.specs.Rules.{rowBad, holders, tableChecked, groupOf}
-use Rattle.groups.specs.Sums.{groupShare}
+use Rattle.group_table.specs.Rules.{rowBad, holders, tableChecked, groupOf}
+use Rattle.group_table.specs.Sums.{groupShare}
 
 -- ---- accepted: states 0 to 2 and 4 in group 7, state 3 in group 15, rows in no order
 

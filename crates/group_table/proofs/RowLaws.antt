@@ -9,8 +9,8 @@ use lib.Dec.{ltb, leb}
 use lib.ListN.{length}
 use borrow.Author.Tests.{lt-ltb, le-ltb, le-leb, lt-leb, ltb-true, ltb-false, leb-true, leb-false}
 use Rattle.basics.proofs.BoolLaws.{or-yes, or-yes-first, or-no, or-decides, neither, either}
-use Rattle.groups.specs.Rules.{firstState, lastState, groupNumber, rowBad}
-use Rattle.groups.specs.Sound.{SoundRow, Fault, cut-short, first-above-last, first-too-high, last-too-high, group-too-high}
+use Rattle.group_table.specs.Rules.{firstState, lastState, groupNumber, rowBad}
+use Rattle.group_table.specs.Sound.{SoundRow, Fault, cut-short, first-above-last, first-too-high, last-too-high, group-too-high}
 
 module _ (n : ℕ) (table : List ℕ) (row : ℕ) where
   -- the first one, two, three and four tests

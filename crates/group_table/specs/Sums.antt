@@ -6,7 +6,7 @@ use lib.Dec.{eqb}
 use Rattle.range.specs.Range.{picked}
 use Rattle.scaled.specs.declared.Scaled.{Scaled}
 use Rattle.kernel.specs.Numbers.{ops}
-use Rattle.groups.specs.Rules.{groupOf}
+use Rattle.group_table.specs.Rules.{groupOf}
 
 -- "sixteen m and sixteen e places": the groups 0 to 15
 abbrev pub groupPlaces : ℕ

@@ -1,0 +1,2 @@
+-- Laws of the answer slice.
+pub mod Answers

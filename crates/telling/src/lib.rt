@@ -1,0 +1,65 @@
+// How an answer is handed to C: a number is returned, and three places of a lent slice take the rest. For the calls of `stall`.
+ghost use mathlib.Core.List.{[], _∷_};
+ghost use mathlib.Core.Path.{_≡_};
+ghost use Rattle.refusal.specs.Table.{side, line, verdict};
+ghost use Rattle.storage.specs.Reading.{told};
+ghost use Rattle.telling.specs.Answer.{sideNumber, refusalPlaces, handed, Told, CountTold, ReadingTold};
+use refusal::Outcome;
+use refusal::Refusal;
+use storage::Reading;
+
+// Three numbers into the first three places of the answer slice, if it has them.
+fn put(answer: &mut [usize], first: usize, second: usize, third: usize)
+    ensures { λ _. ⌜ now (answer .exit) ≡ handed (now (answer .entry)) (first ∷ second ∷ third ∷ []) ⌝ }
+{
+    if 3 <= answer.len() {
+        answer[0] = first;
+        answer[1] = second;
+        answer[2] = third;
+    }
+}
+
+// The side at fault: 0 the chain, 1 the stored bytes.
+fn side_number(refusal: Refusal) -> usize
+    ensures { λ r. ⌜ r ≡ sideNumber (side refusal) ⌝ }
+{
+    match refusal {
+        Refusal::Chain(_) => 0,
+        Refusal::Bytes(_) => 1,
+    }
+}
+
+// A refusal's number is returned; its places and the side at fault go to the answer slice.
+fn tell_refusal(refusal: Refusal, answer: &mut [usize]) -> u32
+    ensures { λ r. ⌜ Told (line refusal .number) (refusalPlaces (side refusal) (line refusal)) (now (answer .entry)) r (now (answer .exit)) ⌝ }
+{
+    let listed = refusal::listed(refusal);
+    put(answer, listed.first, listed.second, side_number(refusal));
+    listed.number
+}
+
+// A count: the bound count of a solving, or the number of bytes of a writing. The number of the refusal is returned, or 0.
+pub fn tell_count(outcome: Outcome, answer: &mut [usize]) -> u32
+    ensures { λ r. ⌜ CountTold (verdict outcome) (now (answer .entry)) r (now (answer .exit)) ⌝ }
+{
+    match outcome {
+        Outcome::Refused(refusal) => tell_refusal(refusal, answer),
+        Outcome::Done(count) => {
+            put(answer, count, 0, 0);
+            0
+        }
+    }
+}
+
+// A reading: its order and its number of entries. The number of the refusal is returned, or 0.
+pub fn tell_reading(reading: Reading, answer: &mut [usize]) -> u32
+    ensures { λ r. ⌜ ReadingTold (told reading) (now (answer .entry)) r (now (answer .exit)) ⌝ }
+{
+    match reading {
+        Reading::Refused(refusal) => tell_refusal(refusal, answer),
+        Reading::Chain { order, entries } => {
+            put(answer, order, entries, 0);
+            0
+        }
+    }
+}
