@@ -4,7 +4,6 @@ pub mod Ranges
 pub mod Demands
 pub mod Acceptance
 pub mod Admission
-pub mod BoundTable
 pub mod Tables
 pub mod Room
 pub mod Outcomes

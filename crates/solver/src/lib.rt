@@ -1,96 +1,13 @@
 // The public call that solves a chain: what it refuses, the bound count, and the elimination on the needed places.
 ghost use mathlib.Core.Path.{_≡_};
-ghost use Prim.Native.Nat.{_<_, _≤_};
+ghost use Prim.Native.Nat.{_≤_};
 ghost use Rattle.refusal.specs.Table.{verdict};
-ghost use Rattle.markov.specs.Count.{boundCount};
 ghost use Rattle.chain.specs.Rows.{inRows};
 ghost use Rattle.solver.specs.Lent.{lent, bothHave, enough};
 ghost use Rattle.solver.specs.Solve.{solved, Solved};
 use refusal::ChainReason;
 use refusal::Outcome;
 use refusal::Refusal;
-
-fn wide(x: u32) -> usize
-    ensures { λ r. ⌜ r ≡ x ⌝ }
-{
-    x as usize
-}
-
-// The bound counts K(1) to K(64).
-const BOUND_COUNTS: [u32; 64] = [
-    0,
-    8,
-    28,
-    64,
-    120,
-    200,
-    308,
-    448,
-    624,
-    840,
-    1100,
-    1408,
-    1768,
-    2184,
-    2660,
-    3200,
-    3808,
-    4488,
-    5244,
-    6080,
-    7000,
-    8008,
-    9108,
-    10304,
-    11600,
-    13000,
-    14508,
-    16128,
-    17864,
-    19720,
-    21700,
-    23808,
-    26048,
-    28424,
-    30940,
-    33600,
-    36408,
-    39368,
-    42484,
-    45760,
-    49200,
-    52808,
-    56588,
-    60544,
-    64680,
-    69000,
-    73508,
-    78208,
-    83104,
-    88200,
-    93500,
-    99008,
-    104728,
-    110664,
-    116820,
-    123200,
-    129808,
-    136648,
-    143724,
-    151040,
-    158600,
-    166408,
-    174468,
-    182784,
-];
-
-// K(n) = (2n^3 + 6n^2 - 8n) / 3.
-fn bound_count(n: usize) -> usize
-    requires { ⌜ (0 < n) × (n ≤ 64) ⌝ }
-    ensures { λ r. ⌜ r ≡ boundCount n ⌝ }
-{
-    wide(BOUND_COUNTS[n - 1])
-}
 
 fn both_have(k: usize, m: usize, e: usize) -> bool
     ensures { λ r. ⌜ r ≡ bothHave k m e ⌝ }
@@ -138,7 +55,7 @@ fn admit(
     let Outcome::Done(_) = reached else {
         return reached;
     };
-    Outcome::Done(bound_count(n))
+    Outcome::Done(bound::bound_count(n))
 }
 
 // Solves a chain: the weights (m, e) go to wm, we and the shares to sm, se; the answer is the bound count, or the first refusal of 1 to 6.

@@ -1,4 +1,5 @@
 -- The first refusal of 1 to 6, or the bound count. Assumes nothing.
+use native.Mathlib.Omega.{arith}
 use Rattle.basics.proofs.BoolLaws.{passed, failed}
 use Rattle.chain.specs.Rows.{inRows}
 use Rattle.chain.specs.Sound.{Sound}
@@ -42,5 +43,5 @@ admit-spec =
     (tie.spec
     (λ c κs. search needs) (λ c. search needs) (λ c. search needs) returns (λ c κs. sound c .order .high) returns-2 (λ c κs. sound (c .before .before))
     (λ c. search needs) (λ c. search needs) returns-3
-    (λ c κs. let s = sound (c .before .before .before .before .before) in (s .order .low, s .order .high))
+    (λ c κs. omega (arith, sound (c .before .before .before .before .before) .order .high))
     returns-4)
