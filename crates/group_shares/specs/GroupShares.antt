@@ -12,7 +12,7 @@ use Rattle.basics.specs.Near.{Near}
 use Rattle.refusal.specs.Table.{Verdict, Side, accepts, refuses, of-chain, numbered, verdict, andThen}
 use Rattle.refusal.specs.declared.Line.{Line}
 use Rattle.refusal.specs.declared.Outcome.{Outcome}
-use Rattle.markov.specs.Chain.{Rates, HasAnswer}
+use Rattle.markov.specs.Chain.{Rates, Irreducible}
 use Rattle.markov.specs.Weight.{weight}
 use Rattle.markov.specs.Count.{boundCount}
 use Rattle.scaled.specs.declared.Scaled.{Scaled}
@@ -67,7 +67,7 @@ pub record GroupsSolvable (c : Rows) (table : List ℕ) (l : GroupLent) : Type 0
   pub sound : Sound c
   pub table-sound : SoundTable (c .order) table
   pub room : GroupRoomy (c .order) l
-  pub answer : HasAnswer (c .order) (rateIn c)
+  pub answer : Irreducible (c .order) (rateIn c)
 
 -- a refusal says that the refusals before it do not apply and that this one does; an acceptance that none does
 pub data GroupsSay (c : Rows) (table : List ℕ) (l : GroupLent) : Verdict ℕ → Type 0 where
@@ -102,7 +102,7 @@ pub record GroupsSolved (c : Rows) (table : List ℕ) (old : GroupLent) (r : Out
   pub groups : new .groups ≡ afterIn (verdict r) (old .groups) (numbers groupPlaces (groupSharesOf c table))
   -- every number met; its field `groups` has the partial sums of every group
   pub in-range : (k : ℕ) → verdict r ≡ accepts k → AllInside c
-  pub balancing : Sound c → HasAnswer (c .order) (rateIn c) → Balancing (c .order) (rateIn c)
+  pub balancing : Sound c → Irreducible (c .order) (rateIn c) → Balancing (c .order) (rateIn c)
   pub accurate : (k : ℕ) → verdict r ≡ accepts k
       → Accurate (c .order) (rateIn c) k (numberAt (new .solving .weights)) (numberAt (new .solving .shares))
   pub groups-accurate : (k : ℕ) → verdict r ≡ accepts k → GroupsAccurate (c .order) (rateIn c) table k (numberAt (new .groups))

@@ -7,7 +7,7 @@ use native.Mathlib.Nat.{mul-pos}
 use native.Mathlib.Omega.{arith}
 use Rattle.basics.specs.Near.{Factor, Near}
 use Rattle.basics.proofs.NearLaws.{near-same, near-eq, near-sym, near-trans, near-more, near-mul, near-scale, near-cancel}
-use Rattle.markov.specs.Chain.{Rates, HasAnswer}
+use Rattle.markov.specs.Chain.{Rates, Irreducible}
 use Rattle.markov.specs.Weight.{weight}
 use Rattle.markov.specs.Elimination.{Ops, next, weights}
 use Rattle.markov.proofs.StepCounts.{positives, stepCount, eliminationCount, pivotProduct}
@@ -15,7 +15,7 @@ use Rattle.markov.specs.Promises.{Promises, AllFit}
 use Rattle.markov.proofs.CountLaws.{positives-le}
 use Rattle.markov.proofs.Positive.{weight-alone}
 use Rattle.markov.proofs.Step.{pivot, pivot-pos}
-use Rattle.markov.proofs.Perturb.{next-has-answer, step-near, tail-near, head-near}
+use Rattle.markov.proofs.Perturb.{next-irreducible, step-near, tail-near, head-near}
 use Rattle.markov.proofs.Rounding.{pivot-near, entry-near, back-near}
 
 module _ {X : Type 0} (val : X → ℕ) where
@@ -63,37 +63,37 @@ module _ {X : Type 0} (O : Ops X) (val : X → ℕ) where
       one-step (suc r) b l = omega arith
 
 module _ {F : Factor} {X : Type 0} {O : Ops X} {one : ℕ} {val : X → ℕ} {Fit : X → Type 0} (P : Promises F O one val Fit) where
-  -- the matrix of the next step still has an answer
-  next-answer : (r : ℕ) (a : ℕ → ℕ → X) → AllFit O Fit (suc r) a → HasAnswer (suc (suc r)) (vals val a) → HasAnswer (suc r) (vals val (next O (suc r) a))
-  next-answer r a h c = next-has-answer r (vals val a) (vals val (next O (suc r) a)) (entry-near P r a (h .0) c) c
+  -- the matrix of the next step is still irreducible
+  still-irreducible : (r : ℕ) (a : ℕ → ℕ → X) → AllFit O Fit (suc r) a → Irreducible (suc (suc r)) (vals val a) → Irreducible (suc r) (vals val (next O (suc r) a))
+  still-irreducible r a h c = next-irreducible r (vals val a) (vals val (next O (suc r) a)) (entry-near P r a (h .0) c) c
 
-  pivots-near : (r : ℕ) (a : ℕ → ℕ → X) → AllFit O Fit r a → HasAnswer (suc r) (vals val a) → Near F (pivotCount O val r a) (pivotProduct O val r a) (sumProduct O val r a)
+  pivots-near : (r : ℕ) (a : ℕ → ℕ → X) → AllFit O Fit r a → Irreducible (suc r) (vals val a) → Near F (pivotCount O val r a) (pivotProduct O val r a) (sumProduct O val r a)
   unfolding pivotCount pivotProduct sumProduct
   pivots-near zero a h c = near-same zero
-  pivots-near (suc r) a h c = near-mul (pivot-near P r a (h .0) c) (pivots-near r (next O (suc r) a) (h .2) (next-answer r a h c))
+  pivots-near (suc r) a h c = near-mul (pivot-near P r a (h .0) c) (pivots-near r (next O (suc r) a) (h .2) (still-irreducible r a h c))
 
-  sums-pos : (r : ℕ) (a : ℕ → ℕ → X) → AllFit O Fit r a → HasAnswer (suc r) (vals val a) → zero < sumProduct O val r a
+  sums-pos : (r : ℕ) (a : ℕ → ℕ → X) → AllFit O Fit r a → Irreducible (suc r) (vals val a) → zero < sumProduct O val r a
   unfolding sumProduct
   sums-pos zero a h c = omega arith
-  sums-pos (suc r) a h c = mul-pos (pivot-pos (suc r) (vals val a) (omega arith) c) (sums-pos r (next O (suc r) a) (h .2) (next-answer r a h c))
+  sums-pos (suc r) a h c = mul-pos (pivot-pos (suc r) (vals val a) (omega arith) c) (sums-pos r (next O (suc r) a) (h .2) (still-irreducible r a h c))
 
-  last-near : (r : ℕ) (a : ℕ → ℕ → X) → AllFit O Fit r a → HasAnswer (suc r) (vals val a)
+  last-near : (r : ℕ) (a : ℕ → ℕ → X) → AllFit O Fit r a → Irreducible (suc r) (vals val a)
       → Near F (lastCount O val r a) (sumProduct O val r a) (weight (suc r) (vals val a) r)
   unfolding lastCount sumProduct
   last-near zero a h c = rw (weight-alone (vals val a)) (near-same zero)
   last-near (suc r) a h c =
-      near-trans (near-scale (pivot (suc r) (vals val a)) (last-near r (next O (suc r) a) (h .2) (next-answer r a h c)))
+      near-trans (near-scale (pivot (suc r) (vals val a)) (last-near r (next O (suc r) a) (h .2) (still-irreducible r a h c)))
       (step-near r (vals val a) (vals val (next O (suc r) a)) (entry-near P r a (h .0) c) c r (omega arith))
 
   -- the states other than 0 of one step, from the bound of the next matrix
-  others-near : (r : ℕ) (a : ℕ → ℕ → X) → AllFit O Fit (suc r) a → HasAnswer (suc (suc r)) (vals val a) → {k : ℕ} (z : ℕ)
+  others-near : (r : ℕ) (a : ℕ → ℕ → X) → AllFit O Fit (suc r) a → Irreducible (suc (suc r)) (vals val a) → {k : ℕ} (z : ℕ)
       → ((i : ℕ) → i < suc r → Near F k (val (weights O r (next O (suc r) a) i) * z) (one * weight (suc r) (vals val (next O (suc r) a)) i))
       → (i : ℕ) → i < suc r
       → Near F (k + r * (rowOf val r a + 2)) (val (weights O r (next O (suc r) a) i) * (pivot (suc r) (vals val a) * z)) (one * weight (suc (suc r)) (vals val a) (suc i))
   others-near r a h c z ih =
       tail-near r (vals val a) (vals val (next O (suc r) a)) (entry-near P r a (h .0) c) c one z (λ i. val (weights O r (next O (suc r) a) i)) ih
 
-  weights-near : (r : ℕ) (a : ℕ → ℕ → X) → AllFit O Fit r a → HasAnswer (suc r) (vals val a)
+  weights-near : (r : ℕ) (a : ℕ → ℕ → X) → AllFit O Fit r a → Irreducible (suc r) (vals val a)
       → (i : ℕ) → i < suc r → Near F (weightCount O val r a) (val (weights O r a i) * sumProduct O val r a) (one * weight (suc r) (vals val a) i)
   unfolding weightCount sumProduct weights
   weights-near zero a h c zero l = rw (P .unit-is, weight-alone (vals val a)) (near-same zero)
@@ -101,20 +101,20 @@ module _ {F : Factor} {X : Type 0} {O : Ops X} {one : ℕ} {val : X → ℕ} {Fi
   weights-near (suc r) a h c zero l =
       head-near (suc r) (vals val a) one (pivot (suc r) (vals val a) * sumProduct O val r (next O (suc r) a)) (λ i. val (weights O (suc r) a i))
       (pivot-pos (suc r) (vals val a) (omega arith) c) (back-near P r a (h .0) c (h .1))
-      (others-near r a h c (sumProduct O val r (next O (suc r) a)) (λ i l. weights-near r (next O (suc r) a) (h .2) (next-answer r a h c) i l))
+      (others-near r a h c (sumProduct O val r (next O (suc r) a)) (λ i l. weights-near r (next O (suc r) a) (h .2) (still-irreducible r a h c) i l))
   weights-near (suc r) a h c (suc i) l =
       near-more (omega arith)
-      (others-near r a h c (sumProduct O val r (next O (suc r) a)) (λ i l. weights-near r (next O (suc r) a) (h .2) (next-answer r a h c) i l) i (omega arith))
+      (others-near r a h c (sumProduct O val r (next O (suc r) a)) (λ i l. weights-near r (next O (suc r) a) (h .2) (still-irreducible r a h c) i l) i (omega arith))
 
   -- the computed weights over the last, within the count of the steps
-  pub own-bound : (r : ℕ) (a : ℕ → ℕ → X) → AllFit O Fit r a → HasAnswer (suc r) (vals val a) → (i : ℕ) → i < suc r
+  pub own-bound : (r : ℕ) (a : ℕ → ℕ → X) → AllFit O Fit r a → Irreducible (suc r) (vals val a) → (i : ℕ) → i < suc r
       → Near F (eliminationCount O val r a) (val (weights O r a i) * weight (suc r) (vals val a) r) (one * weight (suc r) (vals val a) i)
   own-bound r a h c i l =
       rw (← (counts-add O val r a))
       (near-cancel (sums-pos r a h c) (near-eq (near-mul (weights-near r a h c i l) (near-sym (last-near r a h c))) (omega arith) (omega arith)))
 
   -- the computed weights times the product of the computed pivots
-  pub own-bound-absolute : (r : ℕ) (a : ℕ → ℕ → X) → AllFit O Fit r a → HasAnswer (suc r) (vals val a) → (i : ℕ) → i < suc r
+  pub own-bound-absolute : (r : ℕ) (a : ℕ → ℕ → X) → AllFit O Fit r a → Irreducible (suc r) (vals val a) → (i : ℕ) → i < suc r
       → Near F (eliminationCount O val r a) (val (weights O r a i) * pivotProduct O val r a) (one * weight (suc r) (vals val a) i)
   own-bound-absolute r a h c i l =
       near-more (omega (arith, counts-add O val r a, pivot-count-le O val r a))

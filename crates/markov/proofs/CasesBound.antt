@@ -6,7 +6,7 @@ use native.Mathlib.Omega.{arith}
 use lib.Dec.{lit<}
 use Rattle.basics.specs.Sum.{sum}
 use Rattle.basics.specs.Near.{Factor, Near}
-use Rattle.markov.specs.Chain.{Reaches, here, move, HasAnswer}
+use Rattle.markov.specs.Chain.{Reaches, here, move, Irreducible}
 use Rattle.markov.specs.Weight.{weight}
 use Rattle.markov.specs.Count.{boundCount}
 use Rattle.markov.specs.Elimination.{total, pivotOf, quotientAt, next, weights, shares}
@@ -18,9 +18,9 @@ use Rattle.markov.proofs.Exact.{exact-promises, exact-elimination}
 
 -- ---- every state reaches every other
 
-answer-2 : HasAnswer 2 case2
+irreducible-2 : Irreducible 2 case2
 unfolding case2 only
-answer-2 = record { path = path }
+irreducible-2 = record { path = path }
   where
     path : (i j : ℕ) → i < 2 → j < 2 → Reaches 2 case2 i j
     path zero zero hi hj = here
@@ -31,9 +31,9 @@ answer-2 = record { path = path }
     path (suc zero) (suc (suc j)) hi hj = absurd (omega arith)
     path (suc (suc i)) j hi hj = absurd (omega arith)
 
-answer-3 : HasAnswer 3 case3
+irreducible-3 : Irreducible 3 case3
 unfolding case3 only
-answer-3 = record { path = λ i j hi hj. from i hi j hj }
+irreducible-3 = record { path = λ i j hi hj. from i hi j hj }
   where
     on-0 : {j : ℕ} → Reaches 3 case3 1 j → Reaches 3 case3 0 j
     on-0 t = move {i = 0} {k = 1} (lit< tt) (lit< tt) t
@@ -158,14 +158,14 @@ bound-2 : (F : Factor) (i : ℕ) → i < 2 → Near F 8 (units (weights (exact 1
 unfolding matrix
 bound-2 F i l =
     rw (count-2, weights-2 .1) at
-    (elimination-bound (exact-promises F 12 (lit< tt)) 1 (matrix 12 case2) case2 (λ i j li lj d. refl) answer-2 (all-fit-2 .elimination) i l)
+    (elimination-bound (exact-promises F 12 (lit< tt)) 1 (matrix 12 case2) case2 (λ i j li lj d. refl) irreducible-2 (all-fit-2 .elimination) i l)
 
 share-2 : (F : Factor) (i : ℕ) → i < 2 → Near F 18 (units (shares (exact 12) 1 (matrix 12 case2) i) * sum 2 (weight 2 case2)) (12 * weight 2 case2 i)
 unfolding matrix
 share-2 F i l =
     rw count-2 at
-    (share-bound (exact-promises F 12 (lit< tt)) 1 (matrix 12 case2) case2 (λ i j li lj d. refl) answer-2 all-fit-2 i l)
+    (share-bound (exact-promises F 12 (lit< tt)) 1 (matrix 12 case2) case2 (λ i j li lj d. refl) irreducible-2 all-fit-2 i l)
 
 exact-3 : (i : ℕ) → i < 3 → units (weights (exact 7) 2 (matrix 7 case3) i) * weight 3 case3 2 ≡ 7 * weight 3 case3 i
 unfolding matrix
-exact-3 i l = exact-elimination 7 (lit< tt) 2 (matrix 7 case3) case3 (λ i j li lj d. refl) answer-3 all-fit-3 i l
+exact-3 i l = exact-elimination 7 (lit< tt) 2 (matrix 7 case3) case3 (λ i j li lj d. refl) irreducible-3 all-fit-3 i l

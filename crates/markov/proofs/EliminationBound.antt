@@ -9,7 +9,7 @@ use Rattle.basics.specs.Sum.{sum}
 use Rattle.basics.specs.Near.{Factor, Near}
 use Rattle.basics.proofs.SumLaws.{sum-cong, mul-sum, sum-pos}
 use Rattle.basics.proofs.NearLaws.{near-eq, near-sym, near-trans, near-more, near-sum, near-scale, near-cancel, near-pos}
-use Rattle.markov.specs.Chain.{Rates, HasAnswer}
+use Rattle.markov.specs.Chain.{Rates, Irreducible}
 use Rattle.markov.specs.Weight.{weight}
 use Rattle.markov.specs.Elimination.{Ops, total, weights, shares}
 use Rattle.markov.specs.Count.{boundCount}
@@ -21,7 +21,7 @@ use Rattle.markov.proofs.CountLaws.{positives-le, elimination-count-le}
 use Rattle.markov.proofs.FitMaps.{all-weights-fit}
 use Rattle.markov.proofs.Positive.{weight-pos, pos-left}
 use Rattle.markov.proofs.Rounding.{total-near}
-use Rattle.markov.proofs.Step.{has-answer-of}
+use Rattle.markov.proofs.Step.{irreducible-of}
 
 -- a share: w lies within k of v over v's part z, total within d of the sum of w, share is a quotient of the two
 share-near : {F : Factor} {k d all : ℕ} (one n z : ℕ) (w v : ℕ → ℕ) → zero < one
@@ -37,10 +37,10 @@ share-near {F} {k} {d} {all} one n z w v p h t share i l q =
 
 module _ {F : Factor} {X : Type 0} {O : Ops X} {one : ℕ} {val : X → ℕ} {Fit : X → Type 0} (P : Promises F O one val Fit)
     (r : ℕ) (a : ℕ → ℕ → X) (rate : Rates) (filled : (i j : ℕ) → i < suc r → j < suc r → i ≢ j → val (a i j) ≡ rate i j * one)
-    (c : HasAnswer (suc r) rate) where
+    (c : Irreducible (suc r) rate) where
   -- the matrix holds the chain in units
-  pub filled-answer : HasAnswer (suc r) (vals val a)
-  filled-answer = has-answer-of (λ i j li lj d q. rw (filled i j li lj d) (mul-pos q (P .one-pos))) c
+  pub filled-irreducible : Irreducible (suc r) (vals val a)
+  filled-irreducible = irreducible-of (λ i j li lj d q. rw (filled i j li lj d) (mul-pos q (P .one-pos))) c
 
   pub filled-weight : (i : ℕ) → i < suc r → weight (suc r) (vals val a) i ≡ one ^ r * weight (suc r) rate i
   filled-weight i l = weight-scale r rate (vals val a) i one l (λ u v hu hv d. filled u v hu hv d ∙ mul-comm (rate u v) one)
@@ -51,7 +51,7 @@ module _ {F : Factor} {X : Type 0} {O : Ops X} {one : ℕ} {val : X → ℕ} {Fi
         → Near F (eliminationCount O val r a) (val (weights O r a i) * weight (suc r) rate r) (one * weight (suc r) rate i)
     elimination-count-bound i l =
         near-cancel (one-le-pow r one (P .one-pos))
-        (near-eq (own-bound P r a h filled-answer i l) (rw (filled-weight r (omega arith)) (omega arith)) (rw (filled-weight i l) (omega arith)))
+        (near-eq (own-bound P r a h filled-irreducible i l) (rw (filled-weight r (omega arith)) (omega arith)) (rw (filled-weight i l) (omega arith)))
 
     -- and within the bound count of the order
     pub elimination-bound : (i : ℕ) → i < suc r
@@ -62,7 +62,7 @@ module _ {F : Factor} {X : Type 0} {O : Ops X} {one : ℕ} {val : X → ℕ} {Fi
     pub elimination-absolute-bound : (i : ℕ) → i < suc r
         → Near F (eliminationCount O val r a) (val (weights O r a i) * pivotProduct O val r a) (one ^ suc r * weight (suc r) rate i)
     elimination-absolute-bound i l =
-        near-eq (own-bound-absolute P r a h filled-answer i l) refl (rw (filled-weight i l, pow-suc one r) (omega arith))
+        near-eq (own-bound-absolute P r a h filled-irreducible i l) refl (rw (filled-weight i l, pow-suc one r) (omega arith))
 
     -- every computed weight is positive
     pub weights-positive : (i : ℕ) → i < suc r → zero < val (weights O r a i)

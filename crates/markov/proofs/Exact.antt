@@ -10,7 +10,7 @@ use lib.Dec.{eqb}
 use borrow.Author.Tests.{eqb-true}
 use Rattle.basics.specs.Near.{Factor, Near}
 use Rattle.basics.proofs.NearLaws.{near-same, near-eq}
-use Rattle.markov.specs.Chain.{Rates, HasAnswer}
+use Rattle.markov.specs.Chain.{Rates, Irreducible}
 use Rattle.markov.specs.Weight.{weight}
 use Rattle.markov.specs.Elimination.{weights}
 use Rattle.markov.specs.Promises.{Added, Promises, AllFit}
@@ -58,6 +58,6 @@ unity-equal {c} h = le-antisymm (simp (one-pow, mul-one) at (h .under .bound)) (
 
 -- the elimination in exact arithmetic: weight i over the last weight is exact
 pub exact-elimination : (one : ℕ) → zero < one → (r : ℕ) (a : ℕ → ℕ → Num) (rate : Rates)
-    → ((i j : ℕ) → i < suc r → j < suc r → i ≢ j → units (a i j) ≡ rate i j * one) → HasAnswer (suc r) rate → AllFit (exact one) IsNumber r a
+    → ((i j : ℕ) → i < suc r → j < suc r → i ≢ j → units (a i j) ≡ rate i j * one) → Irreducible (suc r) rate → AllFit (exact one) IsNumber r a
     → (i : ℕ) → i < suc r → units (weights (exact one) r a i) * weight (suc r) rate r ≡ one * weight (suc r) rate i
 exact-elimination one pos r a rate e c h i l = unity-equal (elimination-bound (exact-promises unity one pos) r a rate e c h i l)

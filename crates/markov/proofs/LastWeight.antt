@@ -8,13 +8,13 @@ use native.Mathlib.Omega.{arith}
 use native.Mathlib.Nat.{mul-comm, mul-one, eq-of-mul-eq-mul-right}
 use lib.Dec.{eqb, eqb·suc-suc}
 use Rattle.basics.proofs.SumLaws.{sum-cong}
-use Rattle.markov.specs.Chain.{Rates, HasAnswer}
+use Rattle.markov.specs.Chain.{Rates, Irreducible}
 use Rattle.basics.specs.Below.{count}
 use Rattle.markov.specs.Weight.{weight}
 use Rattle.markov.proofs.Led.{iter}
 use Rattle.markov.proofs.Compare.{weight-own-row, weight-scale}
 use Rattle.markov.proofs.Balance.{weight-balanced}
-use Rattle.markov.proofs.Step.{pivot, reduced, reduced-balanced, reduced-has-answer}
+use Rattle.markov.proofs.Step.{pivot, reduced, reduced-balanced, reduced-irreducible}
 use Rattle.markov.proofs.Rows.{only, weight-only, φ, simple, simple-1, row-by-row}
 use Rattle.markov.proofs.Positive.{weight-pos, weight-alone}
 use Rattle.markov.proofs.Unique.{weight-unique}
@@ -23,13 +23,13 @@ abbrev Holds : ℕ → Rates → ℕ → Type 0
 Holds r g i = pivot (suc r) g * weight (suc r) (reduced (suc r) g) i ≡ pivot (suc r) g ^ r * weight (suc (suc r)) g (suc i)
 
 -- from state to state, by proportion
-carry : (r : ℕ) (g : Rates) (i j : ℕ) → HasAnswer (suc (suc r)) g → i < suc r → j < suc r → Holds r g i → Holds r g j
+carry : (r : ℕ) (g : Rates) (i j : ℕ) → Irreducible (suc (suc r)) g → i < suc r → j < suc r → Holds r g i → Holds r g j
 carry r g i j c hi hj e =
     let s = pivot (suc r) g in
     let W = weight (suc (suc r)) g in
     let Z = weight (suc r) (reduced (suc r) g) in
     let p : W (suc i) * Z j ≡ W (suc j) * Z i =
-    weight-unique (suc r) (reduced (suc r) g) (reduced-has-answer (suc r) g c) (reduced-balanced (suc r) g (weight-balanced (suc (suc r)) g)) .at i j hi hj in
+    weight-unique (suc r) (reduced (suc r) g) (reduced-irreducible (suc r) g c) (reduced-balanced (suc r) g (weight-balanced (suc (suc r)) g)) .at i j hi hj in
     eq-of-mul-eq-mul-right (W (suc i)) (weight-pos (suc (suc r)) g c (suc i) (omega arith)) _ _
     (omega (arith, ap (λ (z : ℕ). s * z) p, ap (λ (z : ℕ). W (suc j) * z) e))
 
@@ -63,7 +63,7 @@ module _ (r : ℕ) (g : Rates) where
       row zero v hu hv d = absurd (d refl)
       row (suc u) v hu hv d = rw (tail v) (omega arith)
 
-  pub absolute-step : HasAnswer (suc (suc r)) g → (i : ℕ) → i < suc r
+  pub absolute-step : Irreducible (suc (suc r)) g → (i : ℕ) → i < suc r
       → pivot (suc r) g * weight (suc r) (reduced (suc r) g) i ≡ pivot (suc r) g ^ r * weight (suc (suc r)) g (suc i)
   absolute-step c =
       row-by-row r g c (Holds r) (λ h ch i j hi hj. carry r h i j ch hi hj) (change r)
@@ -79,7 +79,7 @@ exactPowers zero g = 1
 exactPowers (suc r) g = pivot (suc r) g ^ r * exactPowers r (reduced (suc r) g)
 
 -- the weight of the last state is the product of the pivots, over the powers
-pub last-weight-pivots : (r : ℕ) (g : Rates) → HasAnswer (suc r) g → exactPowers r g * weight (suc r) g r ≡ exactPivots r g
+pub last-weight-pivots : (r : ℕ) (g : Rates) → Irreducible (suc r) g → exactPowers r g * weight (suc r) g r ≡ exactPivots r g
 unfolding exactPivots exactPowers
 last-weight-pivots zero g c = rw (weight-alone g)
 last-weight-pivots (suc r) g c =
@@ -87,5 +87,5 @@ last-weight-pivots (suc r) g c =
     omega (
       arith,
       ap (λ (z : ℕ). exactPowers r h * z) (absolute-step r g c r (omega arith)),
-      ap (λ (z : ℕ). pivot (suc r) g * z) (last-weight-pivots r h (reduced-has-answer (suc r) g c)),
+      ap (λ (z : ℕ). pivot (suc r) g * z) (last-weight-pivots r h (reduced-irreducible (suc r) g c)),
     )

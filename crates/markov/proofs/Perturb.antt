@@ -9,19 +9,19 @@ use Rattle.basics.specs.Sum.{sum}
 use Rattle.basics.specs.Near.{Factor, Near}
 use Rattle.basics.proofs.SumLaws.{sum-cong, mul-sum}
 use Rattle.basics.proofs.NearLaws.{near-eq, near-trans, near-more, near-sum, near-scale, near-cancel, near-pos}
-use Rattle.markov.specs.Chain.{Rates, HasAnswer}
+use Rattle.markov.specs.Chain.{Rates, Irreducible}
 use Rattle.markov.specs.Weight.{weight}
 use Rattle.markov.proofs.Balance.{weight-balanced}
 use Rattle.markov.proofs.Compare.{weight-scale, weight-near}
-use Rattle.markov.proofs.Step.{pivot, reduced, into-zero, pivot-pos, reduced-has-answer, has-answer-of}
+use Rattle.markov.proofs.Step.{pivot, reduced, into-zero, pivot-pos, reduced-irreducible, irreducible-of}
 use Rattle.markov.proofs.Positive.{pos-right}
 use Rattle.markov.proofs.LastWeight.{absolute-step}
 
 -- h is the reduced chain of g, divided by the pivot, with entries within d factors
 module _ {F : Factor} (r : ℕ) (g h : Rates) {d : ℕ}
-    (e : (i j : ℕ) → i < suc r → j < suc r → i ≢ j → Near F d (pivot (suc r) g * h i j) (reduced (suc r) g i j)) (c : HasAnswer (suc (suc r)) g) where
-  pub next-has-answer : HasAnswer (suc r) h
-  next-has-answer = has-answer-of (λ i k li lk ne p. pos-right (pivot (suc r) g) (h i k) (near-pos (e i k li lk ne) p)) (reduced-has-answer (suc r) g c)
+    (e : (i j : ℕ) → i < suc r → j < suc r → i ≢ j → Near F d (pivot (suc r) g * h i j) (reduced (suc r) g i j)) (c : Irreducible (suc (suc r)) g) where
+  pub next-irreducible : Irreducible (suc r) h
+  next-irreducible = irreducible-of (λ i k li lk ne p. pos-right (pivot (suc r) g) (h i k) (near-pos (e i k li lk ne) p)) (reduced-irreducible (suc r) g c)
 
   -- its weights times the pivot are those of g, within d factors for each state but one
   pub step-near : (i : ℕ) → i < suc r → Near F (r * d) (pivot (suc r) g * weight (suc r) h i) (weight (suc (suc r)) g (suc i))

@@ -5,7 +5,7 @@ use native.Mathlib.Omega.{arith}
 use native.Mathlib.Nat.{mul-pos, le-trans}
 use Rattle.basics.specs.Sum.{sum, prod}
 use Rattle.basics.proofs.SumLaws.{term-le-sum}
-use Rattle.markov.specs.Chain.{Rates, Reaches, here, move, HasAnswer, Balances}
+use Rattle.markov.specs.Chain.{Rates, Reaches, here, move, Irreducible, Balances}
 use Rattle.basics.specs.Below.{count, all, put}
 use Rattle.markov.specs.Weight.{over, led, leads, moves, weight}
 use Rattle.markov.proofs.Balance.{weight-balanced}
@@ -34,7 +34,7 @@ spread n g hu (move {i = u} {k = v} hv q w) p =
     (pos-left (weight n g v) (sum n (λ k. g v k))
     (rw (weight-balanced n g .at v hv) at (le-trans (mul-pos p q) (term-le-sum n (λ i. weight n g i * g i v) u hu))))
 
-pub weight-pos : (n : ℕ) (g : Rates) → HasAnswer n g → (i : ℕ) → i < n → 0 < weight n g i
+pub weight-pos : (n : ℕ) (g : Rates) → Irreducible n g → (i : ℕ) → i < n → 0 < weight n g i
 unfolding simple pivot
 weight-pos zero g c i hi = absurd (omega arith)
 weight-pos (suc zero) g c i hi = let e : i ≡ 0 = omega arith in rw (e, weight-alone g) (omega arith)
@@ -46,5 +46,5 @@ weight-pos (suc (suc r)) g c i hi =
     (rw (simple-1 r g) (pivot-pos (suc r) g (omega arith) c)) 0 (omega arith))
 
 -- the exact weights are whole numbers, not all 0, that balance the chain
-pub weight-balances : (n : ℕ) (g : Rates) → 0 < n → HasAnswer n g → Balances n g (weight n g)
+pub weight-balances : (n : ℕ) (g : Rates) → 0 < n → Irreducible n g → Balances n g (weight n g)
 weight-balances n g l c = record { balanced = weight-balanced n g; state = 0; state-below = l; not-zero = weight-pos n g c 0 l }

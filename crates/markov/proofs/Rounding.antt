@@ -8,7 +8,7 @@ use Rattle.basics.specs.Sum.{sum}
 use Rattle.basics.specs.Near.{Factor, Near}
 use Rattle.basics.proofs.SumLaws.{sum-last, mul-sum}
 use Rattle.basics.proofs.NearLaws.{near-same, near-eq, near-sym, near-trans, near-more, near-add, near-sum, near-scale, near-cancel, near-zero, near-pos, near-quot}
-use Rattle.markov.specs.Chain.{Rates, HasAnswer}
+use Rattle.markov.specs.Chain.{Rates, Irreducible}
 use Rattle.markov.specs.Weight.{weight}
 use Rattle.markov.specs.Elimination.{Ops, total, pivotOf, quotientAt, next, weights}
 use Rattle.markov.proofs.StepCounts.{mark, positives}
@@ -46,7 +46,7 @@ module _ {F : Factor} {X : Type 0} {O : Ops X} {one : ℕ} {val : X → ℕ} {Fi
 
   -- ---- one rounded step on r + 2 states
 
-  module _ (r : ℕ) (a : ℕ → ℕ → X) (fits : FitsOn O Fit (suc r) a) (c : HasAnswer (suc (suc r)) (λ i j. val (a i j))) where
+  module _ (r : ℕ) (a : ℕ → ℕ → X) (fits : FitsOn O Fit (suc r) a) (c : Irreducible (suc (suc r)) (λ i j. val (a i j))) where
     -- what the computed matrix means, the positive entries of the pivot's row and column, and the computed pivot
     abbrev g : Rates
     g i j = val (a i j)

@@ -10,7 +10,7 @@ use native.Mathlib.Nat.{mul-one, zero-mul, mul-zero}
 use lib.Dec.{eqb}
 use borrow.Author.Tests.{eq-eqb, ne-eqb}
 use Rattle.basics.specs.Sum.{prod}
-use Rattle.markov.specs.Chain.{Rates, Reaches, here, move, HasAnswer}
+use Rattle.markov.specs.Chain.{Rates, Reaches, here, move, Irreducible}
 use Rattle.basics.specs.Below.{count}
 use Rattle.markov.specs.Weight.{leads, moves, weight}
 use Rattle.basics.proofs.TermLaws.{sum-only, prod-ones, prod-none}
@@ -152,14 +152,14 @@ module _ (r : ℕ) (g : Rates) where
   one-more l p here = move l p here
   one-more l p (move hv q w) = move hv q (one-more l p w)
 
-  mix-has-answer : HasAnswer n g → (k : ℕ) → HasAnswer n (mix k)
-  mix-has-answer c k = record {
+  mix-irreducible : Irreducible n g → (k : ℕ) → Irreducible n (mix k)
+  mix-irreducible c k = record {
     path = λ i j hi hj. one-more hj (omega (arith, mix-1 k j)) (reaches-1 k (c .path i 1 hi (omega arith)) here);
   }
 
   -- Q h i speaks of state i + 1 of the chain h
-  module _ (c : HasAnswer n g) (Q : Rates → ℕ → Type 0)
-      (carry : (h : Rates) → HasAnswer n h → (i j : ℕ) → i < suc r → j < suc r → Q h i → Q h j)
+  module _ (c : Irreducible n g) (Q : Rates → ℕ → Type 0)
+      (carry : (h : Rates) → Irreducible n h → (i j : ℕ) → i < suc r → j < suc r → Q h i → Q h j)
       (change : (h k : Rates) (i : ℕ) → ((u v : ℕ) → u < n → u ≢ suc i → h u v ≡ k u v) → Q h i → Q k i) where
     first-rows : (u v : ℕ) → u < n → u ≢ 1 → simple u v ≡ mix 0 u v
     unfolding mix base simple only φ
@@ -175,9 +175,9 @@ module _ (r : ℕ) (g : Rates) where
     mixed : Q simple 0 → (k : ℕ) → k ≤ r → Q (mix k) 0
     mixed q zero l = change simple (mix 0) 0 first-rows q
     mixed q (suc k) l =
-        carry (mix (suc k)) (mix-has-answer c (suc k)) (suc k) 0 (omega arith) (omega arith)
+        carry (mix (suc k)) (mix-irreducible c (suc k)) (suc k) 0 (omega arith) (omega arith)
         (change (mix k) (mix (suc k)) (suc k) (λ u v hu d. mix-off k u v d)
-        (carry (mix k) (mix-has-answer c k) 0 (suc k) (omega arith) (omega arith) (mixed q k (omega arith))))
+        (carry (mix k) (mix-irreducible c k) 0 (suc k) (omega arith) (omega arith) (mixed q k (omega arith))))
 
     pub row-by-row : Q simple 0 → (i : ℕ) → i < suc r → Q g i
     row-by-row q i hi = carry g c 0 i (omega arith) hi (change (mix r) g 0 last-rows (mixed q r (omega arith)))

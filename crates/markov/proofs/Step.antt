@@ -8,7 +8,7 @@ use native.Mathlib.Decide.{ℕ-discrete}
 use native.Mathlib.Omega.{arith}
 use Rattle.basics.specs.Sum.{sum}
 use Rattle.basics.proofs.SumLaws.{sum-cong, sum-lin, sum-pos}
-use Rattle.markov.specs.Chain.{Rates, Reaches, here, move, HasAnswer, Balanced}
+use Rattle.markov.specs.Chain.{Rates, Reaches, here, move, Irreducible, Balanced}
 
 -- the sum of row 0 of r + 1 states
 unfoldable pub pivot : ℕ → Rates → ℕ
@@ -60,7 +60,7 @@ module _ (r : ℕ) (g : Rates) where
   leaves here t = t
   leaves (move {i = i} {k = k} l p w) t = leave i k l p (leaves w t)
 
-  pub pivot-pos : zero < r → HasAnswer (suc r) g → zero < pivot r g
+  pub pivot-pos : zero < r → Irreducible (suc r) g → zero < pivot r g
   pivot-pos l c = leaves (c .path zero 1 (omega arith) (omega arith)) tt
 
   -- a path to state j + 1, with its visits to 0 cut out; one that starts at 0 is cut after any move to 0
@@ -79,8 +79,8 @@ module _ (r : ℕ) (g : Rates) where
   cuts j s here t = t
   cuts j s (move {i = i} {k = k} l p w) t = cut j i k s l p (cuts j s w t)
 
-  pub reduced-has-answer : HasAnswer (suc r) g → HasAnswer r (reduced r g)
-  reduced-has-answer c =
+  pub reduced-irreducible : Irreducible (suc r) g → Irreducible r (reduced r g)
+  reduced-irreducible c =
       record { path = λ i j hi hj. cuts j (pivot-pos (omega arith) c) (c .path (suc i) (suc j) (suc-le-suc hi) (suc-le-suc hj)) here }
 
 -- ---- other rates for the same chain
@@ -95,5 +95,5 @@ reaches-of {n} {g} {h} e l (move {i = i} {k = k} {j = j} m p t) = go (ℕ-discre
     go (no q) u = move m (e i k l m q p) u
 
 -- where every positive rate between different states stays positive, every state still reaches every other
-pub has-answer-of : {n : ℕ} {g h : Rates} → ((i k : ℕ) → i < n → k < n → i ≢ k → zero < g i k → zero < h i k) → HasAnswer n g → HasAnswer n h
-has-answer-of e c = record { path = λ i j li lj. reaches-of e li (c .path i j li lj) }
+pub irreducible-of : {n : ℕ} {g h : Rates} → ((i k : ℕ) → i < n → k < n → i ≢ k → zero < g i k → zero < h i k) → Irreducible n g → Irreducible n h
+irreducible-of e c = record { path = λ i j li lj. reaches-of e li (c .path i j li lj) }

@@ -5,10 +5,10 @@ use native.Mathlib.Nat.{eq-of-mul-eq-mul-left}
 use native.Mathlib.Omega.{arith}
 use Rattle.basics.specs.Sum.{sum}
 use Rattle.basics.proofs.SumLaws.{sum-cong, mul-sum}
-use Rattle.markov.specs.Chain.{Rates, HasAnswer, Balanced, InProportion}
+use Rattle.markov.specs.Chain.{Rates, Irreducible, Balanced, InProportion}
 use Rattle.markov.specs.Weight.{weight}
 use Rattle.markov.proofs.Balance.{weight-balanced}
-use Rattle.markov.proofs.Step.{pivot, reduced, into-zero, reduced-balanced, pivot-pos, reduced-has-answer}
+use Rattle.markov.proofs.Step.{pivot, reduced, into-zero, reduced-balanced, pivot-pos, reduced-irreducible}
 
 -- where the others are in proportion, so is state 0: the pivot times its number is a sum over the others
 first-proportion : (r : ℕ) (g : Rates) {v w : ℕ → ℕ} → zero < pivot r g → Balanced (suc r) g v → Balanced (suc r) g w → (j : ℕ)
@@ -25,22 +25,22 @@ first-proportion r g {v} {w} s bv bw j e =
       mul-sum r (v (suc j)) (λ i. w (suc i) * g (suc i) zero),
     ))
 
-proportion-at : (n : ℕ) (g : Rates) {v w : ℕ → ℕ} → HasAnswer n g → Balanced n g v → Balanced n g w
+proportion-at : (n : ℕ) (g : Rates) {v w : ℕ → ℕ} → Irreducible n g → Balanced n g v → Balanced n g w
     → (i j : ℕ) → i < n → j < n → v i * w j ≡ v j * w i
 proportion-at zero g c bv bw i j hi hj = omega arith
 proportion-at (suc r) g c bv bw zero zero hi hj = refl
 proportion-at (suc r) g {v} {w} c bv bw zero (suc j) hi hj =
     first-proportion r g (pivot-pos r g (omega arith) c) bv bw j
-    (λ i l. proportion-at r (reduced r g) (reduced-has-answer r g c) (reduced-balanced r g bv) (reduced-balanced r g bw) i j l (omega arith))
+    (λ i l. proportion-at r (reduced r g) (reduced-irreducible r g c) (reduced-balanced r g bv) (reduced-balanced r g bw) i j l (omega arith))
 proportion-at (suc r) g {v} {w} c bv bw (suc i) zero hi hj =
     sym (first-proportion r g (pivot-pos r g (omega arith) c) bv bw i
-    (λ k l. proportion-at r (reduced r g) (reduced-has-answer r g c) (reduced-balanced r g bv) (reduced-balanced r g bw) k i l (omega arith)))
+    (λ k l. proportion-at r (reduced r g) (reduced-irreducible r g c) (reduced-balanced r g bv) (reduced-balanced r g bw) k i l (omega arith)))
 proportion-at (suc r) g c bv bw (suc i) (suc j) hi hj =
-    proportion-at r (reduced r g) (reduced-has-answer r g c) (reduced-balanced r g bv) (reduced-balanced r g bw) i j (omega arith) (omega arith)
+    proportion-at r (reduced r g) (reduced-irreducible r g c) (reduced-balanced r g bv) (reduced-balanced r g bw) i j (omega arith) (omega arith)
 
 -- two lists that balance the chain are in proportion
-pub balanced-unique : (n : ℕ) (g : Rates) {v w : ℕ → ℕ} → HasAnswer n g → Balanced n g v → Balanced n g w → InProportion n v w
+pub balanced-unique : (n : ℕ) (g : Rates) {v w : ℕ → ℕ} → Irreducible n g → Balanced n g v → Balanced n g w → InProportion n v w
 balanced-unique n g c bv bw = record { at = proportion-at n g c bv bw }
 
-pub weight-unique : (n : ℕ) (g : Rates) {w : ℕ → ℕ} → HasAnswer n g → Balanced n g w → InProportion n w (weight n g)
+pub weight-unique : (n : ℕ) (g : Rates) {w : ℕ → ℕ} → Irreducible n g → Balanced n g w → InProportion n w (weight n g)
 weight-unique n g c b = balanced-unique n g c b (weight-balanced n g)

@@ -12,8 +12,8 @@ pub data Reaches (n : ℕ) (rate : Rates) : ℕ → ℕ → Type 0 where
   here : {i : ℕ} → Reaches n rate i i
   move : {i k j : ℕ} → k < n → zero < rate i k → Reaches n rate k j → Reaches n rate i j
 
--- a chain has an answer if and only if every state reaches every other
-pub record HasAnswer (n : ℕ) (rate : Rates) : Type 0 where
+-- every state reaches every other
+pub record Irreducible (n : ℕ) (rate : Rates) : Type 0 where
   pub path : (i j : ℕ) → i < n → j < n → Reaches n rate i j
 
 -- for each state j the sum of w i × rate i j equals w j × the sum of row j

@@ -13,7 +13,7 @@ use Rattle.markov.specs.Weight.{weight}
 use Rattle.markov.specs.Elimination.{Ops, total, weights, shares}
 use Rattle.markov.specs.Promises.{AllFit}
 use Rattle.markov.proofs.Bound.{vals}
-use Rattle.markov.proofs.EliminationBound.{filled-answer, filled-weight}
+use Rattle.markov.proofs.EliminationBound.{filled-irreducible, filled-weight}
 use Rattle.markov.proofs.Positive.{weight-pos}
 use Rattle.range.specs.Bounds.{pivotBound, weightBound, roomBound}
 use Rattle.range.specs.Range.{Numbers, Between, Filled, picked, WeightBounded, Met, InRoom}
@@ -54,17 +54,17 @@ module _ {F : Factor} {X : Type 0} {O : Ops X} {one : ℕ} {val : X → ℕ} {Fi
   start = record {
     steps = omega (arith, H .order);
     factors = omega (arith, count-mono (suc r) n (H .order));
-    answer = filled-answer (N .promises) r a rate (H .is) (H .answer);
+    irreducible = filled-irreducible (N .promises) r a rate (H .is) (H .irreducible);
     fits = H .fits;
     upper = λ i j li lj ne. at-most-of-le zero (rw (pow-zero 2) (omega (arith, H .is i j li lj ne, mul-le-mul-right one (H .rates i j li lj ne))));
     lower = cheap-of whole;
-    exact-pos = weight-pos (suc r) rate (H .answer);
+    exact-pos = weight-pos (suc r) rate (H .irreducible);
     exact-most = λ i l. le-trans (mul-le-mul-left 2 (weight-most (suc r) top rate i l (N .rates) (H .rates))) (exact-room n top (N .states) (N .rates) (suc r) (omega arith) (H .order));
     proportion = λ i l. rw (scaled i l, scaled r (omega arith)) (near-eq {x = one ^ r * (weight (suc r) rate i * weight (suc r) rate r)} (near-same zero) (omega arith) (omega arith));
   }
     where
       scaled : (i : ℕ) → i < suc r → weight (suc r) (vals val a) i ≡ one ^ r * weight (suc r) rate i
-      scaled = filled-weight (N .promises) r a rate (H .is) (H .answer)
+      scaled = filled-weight (N .promises) r a rate (H .is) (H .irreducible)
 
   elimination-fits : AllFit O (Met O one val Fit n top) r a
   elimination-fits = all-fit N r start

@@ -45,9 +45,9 @@ module _ {F : Factor} {X : Type 0} {O : Ops X} {one : ℕ} {val : X → ℕ} {Fi
         let w = val (weights O r a i) in
         let v = weight (suc r) (vals val a) in
         let own : Near F (boundCount (suc r)) (v r * (w * z r)) (one * (v i * z r)) =
-        near-eq (near-scale (z r) (near-more (elimination-count-le O val r a) (own-bound (met-promises N) r a h (I .answer) i l))) (omega arith) (omega arith) in
+        near-eq (near-scale (z r) (near-more (elimination-count-le O val r a) (own-bound (met-promises N) r a h (I .irreducible) i l))) (omega arith) (omega arith) in
         let same : Near F t (one * (v i * z r)) (v r * (one * z i)) = near-eq (near-scale one (I .proportion i l)) refl (omega arith) in
-        near-more (omega arith) (near-cancel (weight-pos (suc r) (vals val a) (I .answer) r (omega arith)) (near-trans own same))
+        near-more (omega arith) (near-cancel (weight-pos (suc r) (vals val a) (I .irreducible) r (omega arith)) (near-trans own same))
 
     pub weights-bounded : (i : ℕ) → i < suc r → WeightBounded O one val Fit n top (weights O r a i)
     weights-bounded i l = record {

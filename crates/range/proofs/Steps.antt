@@ -8,7 +8,7 @@ use native.Mathlib.Omega.{arith}
 use Rattle.basics.specs.Near.{Factor, AtMost, Near}
 use Rattle.basics.proofs.NearLaws.{at-most-more, near-sym, near-trans, near-more, near-eq, near-scale, near-cancel}
 use Rattle.basics.proofs.MildLaws.{within-2}
-use Rattle.markov.specs.Chain.{Rates, HasAnswer}
+use Rattle.markov.specs.Chain.{Rates, Irreducible}
 use Rattle.markov.specs.Weight.{weight}
 use Rattle.markov.specs.Elimination.{Ops, total, pivotOf, quotientAt, next}
 use Rattle.markov.specs.Count.{boundCount}
@@ -16,7 +16,7 @@ use Rattle.markov.proofs.StepCounts.{positives}
 use Rattle.markov.specs.Promises.{Promises, FitsOn}
 use Rattle.markov.proofs.Bound.{vals}
 use Rattle.markov.proofs.CountLaws.{bound-count-suc, positives-le}
-use Rattle.markov.proofs.Perturb.{next-has-answer, step-near}
+use Rattle.markov.proofs.Perturb.{next-irreducible, step-near}
 use Rattle.markov.proofs.Rounding.{entry-near}
 use Rattle.markov.proofs.Step as exact
 use Rattle.range.specs.Bounds.{entryBound, pivotBound, weightBound, roomBound}
@@ -31,7 +31,7 @@ use Rattle.range.proofs.Rooms.{Rooms, rooms, entry-room, order-count}
 pub record Reached (F : Factor) {X : Type 0} (one : ℕ) (val : X → ℕ) (Fit : X → Type 0) (n top k t r : ℕ) (a : ℕ → ℕ → X) (z : ℕ → ℕ) : Type 0 where
   pub steps : k + suc r ≤ n
   pub factors : t + boundCount (suc r) ≤ boundCount n
-  pub answer : HasAnswer (suc r) (vals val a)
+  pub irreducible : Irreducible (suc r) (vals val a)
   pub fits : (i j : ℕ) → i < suc r → j < suc r → i ≢ j → Fit (a i j)
   pub upper : (i j : ℕ) → i < suc r → j < suc r → i ≢ j → AtMost F t (val (a i j)) (one * (top * 2 ^ k))
   pub lower : Cheap (Positive (suc r) (vals val a)) (AtLeast one (pivotBound n top) (suc r) (vals val a)) k
@@ -107,7 +107,7 @@ module _ {F : Factor} {X : Type 0} {O : Ops X} {one : ℕ} {val : X → ℕ} {Fi
     parts m l = sized-more (le-refl _) (omega (arith, bounds)) (total-sized N (suc r) (λ j. a zero (suc j)) row short row-room m l)
 
     row-sum-pos : zero < exact.pivot (suc r) g
-    row-sum-pos = exact.pivot-pos (suc r) g (omega arith) (I .answer)
+    row-sum-pos = exact.pivot-pos (suc r) g (omega arith) (I .irreducible)
 
     pub step-bounded : StepBounded O one val Fit n top (suc r) a
     unfolding pivotOf exact.pivot
@@ -164,7 +164,7 @@ module _ {F : Factor} {X : Type 0} {O : Ops X} {one : ℕ} {val : X → ℕ} {Fi
 
     close : (i j : ℕ) → i < suc r → j < suc r → i ≢ j → Near F count (exact.pivot (suc r) g * h i j) (exact.reduced (suc r) g i j)
     unfolding count
-    close = entry-near met-promises r a on-fits (I .answer)
+    close = entry-near met-promises r a on-fits (I .irreducible)
 
     grows : (i j : ℕ) → i < suc r → j < suc r → i ≢ j → g (suc i) (suc j) ≤ h i j
     unfolding next
@@ -192,9 +192,9 @@ module _ {F : Factor} {X : Type 0} {O : Ops X} {one : ℕ} {val : X → ℕ} {Fi
         let w = weight (suc (suc r)) g in
         let v = weight (suc r) h in
         let into : Near F (r * count) (s * v i * z (suc r)) (w (suc i) * z (suc r)) =
-        near-eq (near-scale (z (suc r)) (step-near r g h close (I .answer) i l)) (omega arith) (omega arith) in
+        near-eq (near-scale (z (suc r)) (step-near r g h close (I .irreducible) i l)) (omega arith) (omega arith) in
         let out : Near F (r * count) (w (suc r) * z (suc i)) (s * v r * z (suc i)) =
-        near-eq (near-scale (z (suc i)) (near-sym (step-near r g h close (I .answer) r (omega arith)))) (omega arith) (omega arith) in
+        near-eq (near-scale (z (suc i)) (near-sym (step-near r g h close (I .irreducible) r (omega arith)))) (omega arith) (omega arith) in
         near-cancel row-sum-pos
         (near-eq (near-more (omega arith) (near-trans into (near-trans (I .proportion (suc i) (suc-le-suc l)) out))) (omega arith) (omega arith))
 
@@ -202,7 +202,7 @@ module _ {F : Factor} {X : Type 0} {O : Ops X} {one : ℕ} {val : X → ℕ} {Fi
     next-reached = record {
       steps = omega arith;
       factors = omega (arith, bound-count-suc (suc r), I .factors);
-      answer = next-has-answer r g h close (I .answer);
+      irreducible = next-irreducible r g h close (I .irreducible);
       fits = λ i j li lj ne. sum i j li lj ne .fits;
       upper = λ i j li lj ne. at-most-more (omega (arith, count-le)) (next-upper i j li lj ne);
       lower = next-lower;

@@ -5,7 +5,7 @@ use mathlib.Core.Logic.{_≢_}
 use mathlib.Core.Path.{_≡_}
 use Prim.Native.Nat.{ℕ, zero, suc, _+_, _*_, _^_, _≤_, _<_}
 use Rattle.basics.specs.Near.{Factor, Mild}
-use Rattle.markov.specs.Chain.{Rates, HasAnswer}
+use Rattle.markov.specs.Chain.{Rates, Irreducible}
 use Rattle.markov.specs.Elimination.{Ops, total, pivotOf, next, weights, shares}
 use Rattle.markov.specs.Count.{boundCount}
 use Rattle.markov.specs.Promises.{Promises, AllFitShares}
@@ -45,7 +45,7 @@ module _ {X : Type 0} (one : ℕ) (val : X → ℕ) (Fit : X → Type 0) where
   -- a matrix on r + 1 states, at most n, filled with the rates, at most top, of a chain in which every state reaches every other
   pub record Filled (n top r : ℕ) (a : ℕ → ℕ → X) (rate : Rates) : Type 0 where
     pub order : suc r ≤ n
-    pub answer : HasAnswer (suc r) rate
+    pub irreducible : Irreducible (suc r) rate
     pub rates : (i j : ℕ) → i < suc r → j < suc r → i ≢ j → rate i j ≤ top
     pub fits : (i j : ℕ) → i < suc r → j < suc r → i ≢ j → Fit (a i j)
     pub is : (i j : ℕ) → i < suc r → j < suc r → i ≢ j → val (a i j) ≡ rate i j * one

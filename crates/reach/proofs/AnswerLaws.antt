@@ -10,7 +10,7 @@ use borrow.Author.Tests.{ltb-true, ltb-false, lt-ltb, le-ltb, not-true, not-fals
 use Rattle.refusal.specs.Table.{Verdict, accepts, refuses, of-chain, numbered, andThen}
 use Rattle.basics.proofs.FirstLaws.{IsFirst, first-is, first-cong}
 use Rattle.basics.proofs.BoolLaws.{by-true, by-false}
-use Rattle.markov.specs.Chain.{Rates, Reaches, HasAnswer}
+use Rattle.markov.specs.Chain.{Rates, Reaches, Irreducible}
 use Rattle.chain.specs.Rows.{Rows}
 use Rattle.chain.specs.Rules.{checked}
 use Rattle.chain.specs.Sound.{Sound}
@@ -73,7 +73,7 @@ module _ (n : ℕ) (rate : Rates) where
       let t : n ≤ lowestTo n (via rate n) i = ltb-false _ _ (from-search .before i (omega arith) m) in
       reached-before i j l (omega arith)
 
-  none-missing : n ≤ lowestFrom n (via rate n) → HasAnswer n rate
+  none-missing : n ≤ lowestFrom n (via rate n) → Irreducible n rate
   none-missing h = record { path = λ i j a b. full-before i j b (omega arith) }
 
   pair-found : lowestFrom n (via rate n) < n → LowestPair n rate (lowestFrom n (via rate n)) (lowestTo n (via rate n) (lowestFrom n (via rate n)))
@@ -116,7 +116,7 @@ module _ (n : ℕ) (rate : Rates) where
           ∙ ap (λ (x : ℕ). refuses of-chain (numbered 6 (lowestFrom n (via rate n)) x)) (same-to h k)
       go false t = absurd (h .missing (none-missing (ltb-false _ _ t) .path i j (h .from-below) (h .to-below)))
 
-  has-answer-is : (given : ℕ) → HasAnswer n rate → accepts given ≡ allReached n (via rate n) given
+  has-answer-is : (given : ℕ) → Irreducible n rate → accepts given ≡ allReached n (via rate n) given
   unfolding allReached
   has-answer-is given h = go (ltb (lowestFrom n (via rate n)) n) refl
     where
@@ -162,13 +162,13 @@ module _ (c : Rows) where
   says-answered (has-answer s h) = rw (sound-accepted c s) (has-answer-is (c .order) (rateIn c) (length (c .columns)) h)
 
   -- a chain is accepted if and only if the rules hold and it has an answer
-  pub answer-accepted : Sound c → HasAnswer (c .order) (rateIn c) → answered c ≡ accepts (length (c .columns))
+  pub answer-accepted : Sound c → Irreducible (c .order) (rateIn c) → answered c ≡ accepts (length (c .columns))
   answer-accepted s h = sym (says-answered (has-answer s h))
 
-  pub accepted-answer : {k : ℕ} → answered c ≡ accepts k → Sound c × HasAnswer (c .order) (rateIn c)
+  pub accepted-answer : {k : ℕ} → answered c ≡ accepts k → Sound c × Irreducible (c .order) (rateIn c)
   accepted-answer {k} e = of-says (answered c) answered-says e
     where
-      of-says : (v : Verdict ℕ) → AnswerSays c v → v ≡ accepts k → Sound c × HasAnswer (c .order) (rateIn c)
+      of-says : (v : Verdict ℕ) → AnswerSays c v → v ≡ accepts k → Sound c × Irreducible (c .order) (rateIn c)
       of-says v (has-answer s h) q = (s, h)
       of-says v (rule-broken e) q = let z : _≡_ {A = ℕ} 0 1 = cc in absurd (omega arith)
       of-says v (unreached s h) q = let z : _≡_ {A = ℕ} 0 1 = cc in absurd (omega arith)

@@ -7,7 +7,7 @@ use lib.ListN.{length}
 use Rattle.basics.specs.First.{first}
 use Rattle.refusal.specs.Table.{Verdict, Side, accepts, refuses, of-chain, numbered, andThen}
 use Rattle.refusal.specs.declared.Line.{Line}
-use Rattle.markov.specs.Chain.{Rates, Reaches, HasAnswer}
+use Rattle.markov.specs.Chain.{Rates, Reaches, Irreducible}
 use Rattle.chain.specs.Rows.{Rows}
 use Rattle.chain.specs.Rules.{checked}
 use Rattle.chain.specs.Sound.{Sound, Says}
@@ -45,4 +45,4 @@ pub record LowestPair (n : ℕ) (rate : Rates) (i j : ℕ) : Type 0 where
 pub data AnswerSays (c : Rows) : Verdict ℕ → Type 0 where
   rule-broken : {side : Side} {line : Line} → Says c (refuses side line) → AnswerSays c (refuses side line)
   unreached : {i j : ℕ} → Sound c → LowestPair (c .order) (rateIn c) i j → AnswerSays c (refuses of-chain (numbered 6 i j))
-  has-answer : Sound c → HasAnswer (c .order) (rateIn c) → AnswerSays c (accepts (length (c .columns)))
+  has-answer : Sound c → Irreducible (c .order) (rateIn c) → AnswerSays c (accepts (length (c .columns)))

@@ -8,7 +8,7 @@ use native.Mathlib.Omega.{arith}
 use lib.ListN.{getD}
 use Rattle.refusal.specs.Table.{accepts, andThen}
 use Rattle.refusal.proofs.VerdictLaws.{accepted-then}
-use Rattle.markov.specs.Chain.{HasAnswer}
+use Rattle.markov.specs.Chain.{Irreducible}
 use Rattle.markov.specs.Count.{boundCount}
 use Rattle.chain.specs.Rows.{Rows}
 use Rattle.chain.specs.Rules.{checked}
@@ -49,7 +49,7 @@ module _ (bytes : List ℕ) (fit : (i : ℕ) → getD bytes i 0 < 256) where
 -- ---- the text
 
 -- a chain that solving accepts, where the lent slices suffice
-admitted : (c : Rows) {K : ℕ} → solved c true ≡ accepts K → Sound c × HasAnswer (c .order) (rateIn c) × (K ≡ boundCount (c .order))
+admitted : (c : Rows) {K : ℕ} → solved c true ≡ accepts K → Sound c × Irreducible (c .order) (rateIn c) × (K ≡ boundCount (c .order))
 unfolding solved
 admitted c {K} h =
     let r = accepted-then (checked c) (λ _. andThen (answered c) (λ _. accepts (boundCount (c .order)))) K h in

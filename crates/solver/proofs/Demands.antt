@@ -3,7 +3,7 @@ use mathlib.Core.Logic.{_≢_}
 use mathlib.Core.Path.{_≡_, subst}
 use Prim.Native.Nat.{ℕ, suc, _-_, _*_, _<_}
 use native.Mathlib.Omega.{arith}
-use Rattle.markov.specs.Chain.{Rates, HasAnswer}
+use Rattle.markov.specs.Chain.{Rates, Irreducible}
 use Rattle.markov.specs.Elimination.{weights, shares}
 use Rattle.markov.specs.Count.{boundCount}
 use Rattle.markov.specs.Promises.{AllFitShares}
@@ -22,7 +22,7 @@ use Rattle.solver.proofs.Operations.{promises}
 
 -- ---- demand 2
 
-pub balancing : (n : ℕ) (rate : Rates) → 0 < n → HasAnswer n rate → Balancing n rate
+pub balancing : (n : ℕ) (rate : Rates) → 0 < n → Irreducible n rate → Balancing n rate
 balancing n rate l h = record {
   balances = weight-balances n rate l h;
   unique = λ w b. weight-unique n rate h (b .balanced);
@@ -31,7 +31,7 @@ balancing n rate l h = record {
 -- ---- demand 3
 
 -- the error bound, with the operations on scaled numbers
-accurate-at : (r : ℕ) (a : ℕ → ℕ → Scaled) (rate : Rates) → ((i j : ℕ) → i < suc r → j < suc r → i ≢ j → val (a i j) ≡ rate i j * one) → HasAnswer (suc r) rate
+accurate-at : (r : ℕ) (a : ℕ → ℕ → Scaled) (rate : Rates) → ((i j : ℕ) → i < suc r → j < suc r → i ≢ j → val (a i j) ≡ rate i j * one) → Irreducible (suc r) rate
     → AllFitShares ops Fit r a → Accurate (suc r) rate (boundCount (suc r)) (weights ops r a) (shares ops r a)
 accurate-at r a rate filled answer fit =
     let z : suc r - 1 ≡ r = omega arith in
@@ -42,7 +42,7 @@ accurate-at r a rate filled answer fit =
       shares = λ i l. share-bound promises r a rate filled answer fit i l;
     }
 
-pub accurate : (c : Rows) → 0 < c .order → HasAnswer (c .order) (rateIn c) → AllFitShares ops Fit (c .order - 1) (entries c)
+pub accurate : (c : Rows) → 0 < c .order → Irreducible (c .order) (rateIn c) → AllFitShares ops Fit (c .order - 1) (entries c)
     → Accurate (c .order) (rateIn c) (boundCount (c .order)) (weightsOf c) (sharesOf c)
 unfolding weightsOf sharesOf entries
 accurate c some answer fit =

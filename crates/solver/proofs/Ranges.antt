@@ -6,7 +6,7 @@ use Prim.Native.Nat.{ℕ, zero, suc, _+_, _-_, _^_, _<_}
 use native.Mathlib.Nat.{eq-zero-or-pos}
 use native.Mathlib.Omega.{arith}
 use lib.ListN.{getD}
-use Rattle.markov.specs.Chain.{HasAnswer}
+use Rattle.markov.specs.Chain.{Irreducible}
 use Rattle.markov.specs.Elimination.{total, pivotOf, quotientAt, weights, shares}
 use Rattle.markov.specs.Promises.{AllFit, AllFitShares}
 use Rattle.markov.proofs.FitMaps.{shares-fit-map}
@@ -49,7 +49,7 @@ module _ {c : Rows} (s : Sound c) (words : (p : ℕ) → getD (c .rates) p 0 < 4
           let q : rateIn c i j ≡ getD (c .rates) (m .place) 0 = ap (rateIn c i) (sym (m .column)) ∙ entry-rate s i hi (m .place) (m .from) (m .to) in
           omega (arith, words (m .place))
 
-  module _ (answer : HasAnswer (c .order) (rateIn c)) where
+  module _ (answer : Irreducible (c .order) (rateIn c)) where
     abbrev x : ℕ → ℕ → Scaled
     x = entries c
 
@@ -60,7 +60,7 @@ module _ {c : Rows} (s : Sound c) (words : (p : ℕ) → getD (c .rates) p 0 < 4
     unfolding entries mostStates mostRate
     filled = record {
       order = omega (arith, s .order .high, order);
-      answer = rw order answer;
+      irreducible = rw order answer;
       rates = λ i j hi hj _. omega (arith, rate-word i j (omega (arith, order)));
       fits = λ i j hi hj _. laws.rate-scaled (rateIn c i j) (rate-word i j (omega (arith, order)));
       is = λ i j _ _ _. laws.rate-value (rateIn c i j);

@@ -11,7 +11,7 @@ use Rattle.basics.specs.Lists.{table}
 use Rattle.refusal.specs.Table.{Verdict, Side, accepts, refuses, of-chain, numbered, verdict, andThen, after}
 use Rattle.refusal.specs.declared.Line.{Line}
 use Rattle.refusal.specs.declared.Outcome.{Outcome}
-use Rattle.markov.specs.Chain.{Rates, HasAnswer, Balances, InProportion}
+use Rattle.markov.specs.Chain.{Rates, Irreducible, Balances, InProportion}
 use Rattle.markov.specs.Weight.{weight}
 use Rattle.markov.specs.Elimination.{total, pivotOf, weights, shares}
 use Rattle.markov.specs.Count.{boundCount}
@@ -71,7 +71,7 @@ afterIn v old new = pair (after v (old .m) (new .m)) (after v (old .e) (new .e))
 pub record Solvable (c : Rows) (l : Lent) : Type 0 where
   pub sound : Sound c
   pub room : Roomy (c .order) l
-  pub answer : HasAnswer (c .order) (rateIn c)
+  pub answer : Irreducible (c .order) (rateIn c)
 
 -- a refusal says that the refusals before it do not apply and that this one does; an acceptance that none does
 pub data SolveSays (c : Rows) (l : Lent) : Verdict ℕ → Type 0 where
@@ -124,5 +124,5 @@ pub record Solved (c : Rows) (old : Lent) (r : Outcome) (new : Lent) : Type 0 wh
   pub weights : new .weights ≡ afterIn (verdict r) (old .weights) (numbers (c .order) (weightsOf c))
   pub shares : new .shares ≡ afterIn (verdict r) (old .shares) (numbers (c .order) (sharesOf c))
   pub in-range : (k : ℕ) → verdict r ≡ accepts k → AllInside c
-  pub balancing : Sound c → HasAnswer (c .order) (rateIn c) → Balancing (c .order) (rateIn c)
+  pub balancing : Sound c → Irreducible (c .order) (rateIn c) → Balancing (c .order) (rateIn c)
   pub accurate : (k : ℕ) → verdict r ≡ accepts k → Accurate (c .order) (rateIn c) k (numberAt (new .weights)) (numberAt (new .shares))

@@ -12,7 +12,7 @@ use Rattle.basics.specs.Near.{Near}
 use Rattle.scaled.specs.declared.Scaled.{Scaled}
 use Rattle.scaled.specs.Scaled.{zeroNumber}
 use Rattle.scaled.specs.Units.{val, one, factor}
-use Rattle.markov.specs.Chain.{HasAnswer, Balances}
+use Rattle.markov.specs.Chain.{Irreducible, Balances}
 use Rattle.markov.specs.Weight.{weight}
 use Rattle.markov.specs.Elimination.{pivotOf}
 use Rattle.markov.specs.Count.{boundCount}
@@ -66,7 +66,7 @@ share-1 = ap (at 1) (cases-hold .case-2 .shares-are)
 
 -- ---- what the theorems ask
 
-pub has-answer-2 : Sound chain2 × HasAnswer 2 (rateIn chain2)
+pub has-answer-2 : Sound chain2 × Irreducible 2 (rateIn chain2)
 unfolding answered allReached checked startsSound columnsChecked entryBad via rateIn sum
 has-answer-2 = accepted-answer chain2 refl
 

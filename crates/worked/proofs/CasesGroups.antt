@@ -13,7 +13,7 @@ use Rattle.basics.specs.Lists.{table}
 use Rattle.scaled.specs.declared.Scaled.{Scaled}
 use Rattle.scaled.specs.Scaled.{zeroNumber, bitLengthUpTo, bitLength, isScaledAt, cut, roundedSum, roundedProduct, roundedQuotient, converted, isScaled, sumOf, productOf, quotientOf, rateOf}
 use Rattle.scaled.specs.Units.{oneNumber, val, one, factor}
-use Rattle.markov.specs.Chain.{HasAnswer}
+use Rattle.markov.specs.Chain.{Irreducible}
 use Rattle.markov.specs.Weight.{over, led, leads, moves, weight}
 use Rattle.markov.specs.Elimination as elimination
 use Rattle.markov.specs.Count.{boundCount}
@@ -46,7 +46,7 @@ group-cases-hold = record { accepted = refl; groups-are = refl; exact-3 = refl; 
 
 -- ---- what the theorem asks
 
-has-answer-3 : Sound chain3 × HasAnswer 3 (rateIn chain3)
+has-answer-3 : Sound chain3 × Irreducible 3 (rateIn chain3)
 unfolding answered allReached checked startsSound columnsChecked entryBad via rateIn sum
 has-answer-3 = accepted-answer chain3 refl
 
