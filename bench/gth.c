@@ -30,7 +30,9 @@ int main(void) {
     double total = 0;
     for (int i = 0; i < n; i++)
         total += weight[i];
-    for (int i = 0; i < n; i++)
-        printf("%d %.17g %.17g\n", i, weight[i], weight[i] / total);
+    for (int i = 0; i < order; i++) {
+        double w = place[i] < 0 ? 0 : weight[place[i]];
+        printf("%d %.17g %.17g\n", i, w, w / total);
+    }
     return 0;
 }

@@ -36,8 +36,10 @@ int main(void) {
     }
     for (int i = 0; i < n; i++)
         mpq_add(total, total, weight[i]);
-    for (int i = 0; i < n; i++) {
-        mpq_div(term, weight[i], total);
+    for (int i = 0; i < order; i++) {
+        mpq_set_ui(term, 0, 1);
+        if (place[i] >= 0)
+            mpq_div(term, weight[place[i]], total);
         gmp_printf("%d %Qd\n", i, term);
     }
     return 0;

@@ -48,11 +48,15 @@ int main(void) {
     mpfr_set_ui(total, 0, DOWN);
     for (int i = 0; i < n; i++)
         mpfr_add(total, total, weight[i], DOWN);
-    printf("states %d bound %d\n", n, (2 * n * n * n + 6 * n * n - 8 * n) / 3);
-    for (int i = 0; i < n; i++) {
+    printf("states %d bound %d\n", order, (2 * n * n * n + 6 * n * n - 8 * n) / 3);
+    for (int i = 0; i < order; i++) {
+        if (place[i] < 0) {
+            printf("%d 0 0 0 0\n", i);
+            continue;
+        }
         printf("%d", i);
-        print_scaled(m, weight[i]);
-        mpfr_div(term, weight[i], total, DOWN);
+        print_scaled(m, weight[place[i]]);
+        mpfr_div(term, weight[place[i]], total, DOWN);
         print_scaled(m, term);
         putchar('\n');
     }

@@ -29,7 +29,9 @@ int main(void) {
     REAL total = 0;
     for (int i = 0; i < n; i++)
         total += weight[i];
-    for (int i = 0; i < n; i++)
-        printf("%d %.17g %.17g\n", i, (double)weight[i], (double)(weight[i] / total));
+    for (int i = 0; i < order; i++) {
+        REAL w = place[i] < 0 ? 0 : weight[place[i]];
+        printf("%d %.17g %.17g\n", i, (double)w, (double)(w / total));
+    }
     return 0;
 }

@@ -20,7 +20,7 @@
  *    3  a rule of the row starts is broken
  *    4  a rule of the columns is broken: the row, the entry's place
  *    5  a lent buffer is shorter than needed
- *    6  some state does not reach another: the lowest from, then the lowest to
+ *    6  the chain has two or more closed sets: the two lowest of the sets' lowest states
  *    8  the stored bytes end early
  *    9  a map's bit stands at its own row, or at n or above: the row, the lowest such bit
  *   10  stored bytes are left over
@@ -61,14 +61,21 @@ extern "C" {
  *            strictly, are below n and never equal the row
  *   rates    one for each column; a rate of 0 is an entry that means no move
  *
- * A result (m, e) means m * 2^e: 2^31 <= m < 2^32 and -16384 <= e <= 16383. The share of a group may also be Zero, (0, 0). */
+ * A non-empty set of states is closed if each of them reaches all the others of the set, over rates above 0, and nothing outside
+ * it: once there, a station never leaves it. A chain has an answer if it has exactly one closed set; let r be the number of its
+ * states. A state outside, such as one that is met only after power-on, is left for good: its weight and its share are Zero.
+ *
+ * A result (m, e) means m * 2^e: 2^31 <= m < 2^32 and -16384 <= e <= 16383, or is Zero, (0, 0). Of weights and shares those of the
+ * states outside the closed set are Zero, and no others. */
 
-/* Solves a chain.
- *   needs     work_m, work_e: n * n places each; the four result slices: n places each; places beyond keep what they held
+/* Solves a chain: its closed set as a chain of its own, in state order.
+ *   needs     work_m, work_e: n * n places each; the four result slices: n places each, whatever r is; places beyond keep what
+ *             they held
  *   tries     1, 2, 3, 4, 5, 6 in that order; the side at fault is always the chain
- *   after 0   weight_m[i], weight_e[i] are the weight of state i (the last state's is 1), share_m[i], share_e[i] its share; the
- *             needed work places are 0; answer[0] is the bound count K(n), answer[1] and answer[2] are 0. With
- *             F = 2^31 / (2^31 - 1), each weight lies within K(n) factors F of the exact one, each share within 2 K(n) + n
+ *   after 0   weight_m[i], weight_e[i] are the weight of state i (that of the closed set's last state is 1), share_m[i],
+ *             share_e[i] its share; all n * n needed work places are 0; answer[0] is the bound count
+ *             K(r) = (2 r^3 + 6 r^2 - 8 r) / 3, answer[1] and answer[2] are 0. With F = 2^31 / (2^31 - 1), each weight lies within
+ *             K(r) factors F of the exact one, each share within 2 K(r) + r
  *   after a refusal  the work and result slices are unchanged */
 uint32_t stall_solve(size_t n,
                      const uint32_t *starts, size_t starts_length,
@@ -90,8 +97,8 @@ uint32_t stall_solve(size_t n,
  *   tries     1, 2, 3, 4, 13, 12, 11, 5, 6 in that order; 13, 12 and 11 each look through the whole table before the next; the side
  *             at fault is always the chain
  *   after 0   all that stall_solve says; and group_m[g], group_e[g] are the share of group g: the sum, from Zero, of the shares of
- *             its states, the lowest state first. A group without states is Zero. Each lies within 2 K(n) + 2 n factors F of
- *             the exact one
+ *             its states, the lowest state first. A group without states in the closed set is Zero. Each lies within
+ *             2 K(r) + 2 n factors F of the exact one
  *   after a refusal  the work and result slices are unchanged, those of the groups too */
 uint32_t stall_solve_groups(size_t n,
                             const uint32_t *starts, size_t starts_length,

@@ -1,30 +1,5 @@
 /* Tests of the four exported calls from C. Exits 0 if all hold, and says which do not. */
-#include "stall.h"
-
-#include <stdio.h>
-#include <string.h>
-
-static int failed, tried;
-
-#define CHECK(what)                                            \
-    do {                                                       \
-        tried++;                                               \
-        if (!(what)) {                                         \
-            failed++;                                          \
-            printf("line %d: not so: %s\n", __LINE__, #what);  \
-        }                                                      \
-    } while (0)
-
-#define COUNT(a) (sizeof(a) / sizeof((a)[0]))
-
-/* What stands in memory that a call may not touch. */
-#define MARK 0x5a
-
-static size_t answer[4];
-static uint32_t starts[STALL_MAX_ORDER + 1], columns[STALL_MAX_ENTRIES], rates[STALL_MAX_ENTRIES];
-static uint32_t work_m[4096], weight_m[64], share_m[64], group_m[STALL_GROUPS + 4];
-static int32_t work_e[4096], weight_e[64], share_e[64], group_e[STALL_GROUPS + 4];
-static uint8_t out[STALL_MAX_BYTES];
+#include "test_memory.h"
 
 /* Case 2 of docs/FORMAT.md: 0 to 1 rate 3, 1 to 0 rate 1. */
 static const uint8_t case2[] = {2, 2, 3, 0, 0, 0, 1, 1, 0, 0, 0};
@@ -33,87 +8,8 @@ static const uint32_t starts2[] = {0, 1, 2}, columns2[] = {1, 0}, rates2[] = {3,
 /* Case 3: the ring 0 to 1 rate 2, 1 to 2 rate 4, 2 to 0 rate 8; and a table for it: states 0 and 1 in group 3, state 2 in group 15. */
 static const uint32_t starts3[] = {0, 1, 2, 3}, columns3[] = {1, 2, 0}, rates3[] = {2, 4, 8}, table3[] = {0, 1, 3, 2, 2, 15};
 
-static int all_marked(const void *memory, size_t from, size_t bytes)
-{
-    const uint8_t *at = memory;
-    for (size_t i = from; i < bytes; i++)
-        if (at[i] != MARK)
-            return 0;
-    return 1;
-}
-
-static int all_zero(const void *memory, size_t bytes)
-{
-    const uint8_t *at = memory;
-    for (size_t i = 0; i < bytes; i++)
-        if (at[i] != 0)
-            return 0;
-    return 1;
-}
-
-static void mark(void)
-{
-    memset(answer, MARK, sizeof answer);
-    memset(starts, MARK, sizeof starts);
-    memset(columns, MARK, sizeof columns);
-    memset(rates, MARK, sizeof rates);
-    memset(work_m, MARK, sizeof work_m);
-    memset(work_e, MARK, sizeof work_e);
-    memset(weight_m, MARK, sizeof weight_m);
-    memset(weight_e, MARK, sizeof weight_e);
-    memset(share_m, MARK, sizeof share_m);
-    memset(share_e, MARK, sizeof share_e);
-    memset(group_m, MARK, sizeof group_m);
-    memset(group_e, MARK, sizeof group_e);
-    memset(out, MARK, sizeof out);
-}
-
-static int chain_unchanged(void)
-{
-    return all_marked(starts, 0, sizeof starts) && all_marked(columns, 0, sizeof columns) && all_marked(rates, 0, sizeof rates);
-}
-
-static int results_unchanged(void)
-{
-    return all_marked(work_m, 0, sizeof work_m) && all_marked(work_e, 0, sizeof work_e)
-        && all_marked(weight_m, 0, sizeof weight_m) && all_marked(weight_e, 0, sizeof weight_e)
-        && all_marked(share_m, 0, sizeof share_m) && all_marked(share_e, 0, sizeof share_e)
-        && all_marked(group_m, 0, sizeof group_m) && all_marked(group_e, 0, sizeof group_e);
-}
-
-static int answer_is(size_t first, size_t second, size_t third)
-{
-    return answer[0] == first && answer[1] == second && answer[2] == third && all_marked(answer + 3, 0, sizeof answer[3]);
-}
-
-/* Each call on memory that is marked before. */
-static uint32_t solve_fresh(size_t n, const uint32_t *s, size_t sn, const uint32_t *c, size_t cn, const uint32_t *r, size_t rn)
-{
-    mark();
-    return stall_solve(n, s, sn, c, cn, r, rn, work_m, COUNT(work_m), work_e, COUNT(work_e), weight_m, COUNT(weight_m),
-                       weight_e, COUNT(weight_e), share_m, COUNT(share_m), share_e, COUNT(share_e), answer, COUNT(answer));
-}
-
-static uint32_t groups_fresh(size_t n, const uint32_t *s, size_t sn, const uint32_t *c, size_t cn, const uint32_t *r, size_t rn,
-                             const uint32_t *t, size_t tn)
-{
-    mark();
-    return stall_solve_groups(n, s, sn, c, cn, r, rn, t, tn, work_m, COUNT(work_m), work_e, COUNT(work_e), weight_m, COUNT(weight_m),
-                              weight_e, COUNT(weight_e), share_m, COUNT(share_m), share_e, COUNT(share_e), group_m, COUNT(group_m),
-                              group_e, COUNT(group_e), answer, COUNT(answer));
-}
-
-static uint32_t read_fresh(const uint8_t *bytes, size_t length)
-{
-    mark();
-    return stall_read(bytes, length, starts, COUNT(starts), columns, COUNT(columns), rates, COUNT(rates), answer, COUNT(answer));
-}
-
-static uint32_t write_fresh(size_t n, const uint32_t *s, size_t sn, const uint32_t *c, size_t cn, const uint32_t *r, size_t rn)
-{
-    mark();
-    return stall_write(n, s, sn, c, cn, r, rn, out, COUNT(out), answer, COUNT(answer));
-}
+/* Case 7, with the starts of case 3: 0 to 1, 1 to 0 and 2 to 0, all rate 1. State 2 is outside the closed set. */
+static const uint32_t columns7[] = {1, 0, 0}, rates7[] = {1, 1, 1};
 
 static void read_solve_write(void)
 {
@@ -125,21 +21,11 @@ static void read_solve_write(void)
 
     CHECK(solve_fresh(2, starts2, 3, columns2, 2, rates2, 2) == 0);
     CHECK(answer_is(8, 0, 0));
-    CHECK(weight_m[0] == 2863311530u && weight_e[0] == -33 && share_m[0] == 2147483648u && share_e[0] == -33);
-    CHECK(weight_m[1] == 2147483648u && weight_e[1] == -31 && share_m[1] == 3221225472u && share_e[1] == -32);
-    CHECK(all_marked(weight_m, 8, sizeof weight_m) && all_marked(weight_e, 8, sizeof weight_e));
-    CHECK(all_marked(share_m, 8, sizeof share_m) && all_marked(share_e, 8, sizeof share_e));
-    CHECK(all_zero(work_m, 16) && all_marked(work_m, 16, sizeof work_m));
-    CHECK(all_zero(work_e, 16) && all_marked(work_e, 16, sizeof work_e));
+    CHECK(state_is(0, 2863311530u, -33, 2147483648u, -33) && state_is(1, 2147483648u, -31, 3221225472u, -32) && solved_in_place(2));
 
     CHECK(write_fresh(2, starts2, 3, columns2, 2, rates2, 2) == 0);
     CHECK(answer_is(sizeof case2, 0, 0));
     CHECK(memcmp(out, case2, sizeof case2) == 0 && all_marked(out, sizeof case2, sizeof out));
-}
-
-static int group_is(int g, uint32_t m, int32_t e)
-{
-    return group_m[g] == m && group_e[g] == e;
 }
 
 static void groups(void)
@@ -151,14 +37,9 @@ static void groups(void)
     for (int g = 0; g < STALL_GROUPS; g++)
         CHECK(g == 3 ? group_is(g, 3681400539u, -32) : g == 15 ? group_is(g, 2454267026u, -34) : group_is(g, 0, 0));
     CHECK(all_marked(group_m, 64, sizeof group_m) && all_marked(group_e, 64, sizeof group_e));
-    for (int i = 0; i < 3; i++) {
-        CHECK(weight_m[i] == 2147483648u && weight_e[i] == -29 - i);
-        CHECK(share_m[i] == 2454267026u && share_e[i] == -32 - i);
-    }
-    CHECK(all_marked(weight_m, 12, sizeof weight_m) && all_marked(weight_e, 12, sizeof weight_e));
-    CHECK(all_marked(share_m, 12, sizeof share_m) && all_marked(share_e, 12, sizeof share_e));
-    CHECK(all_zero(work_m, 36) && all_marked(work_m, 36, sizeof work_m));
-    CHECK(all_zero(work_e, 36) && all_marked(work_e, 36, sizeof work_e));
+    for (int i = 0; i < 3; i++)
+        CHECK(state_is(i, 2147483648u, -29 - i, 2454267026u, -32 - i));
+    CHECK(solved_in_place(3));
 
     /* Summed from the lowest state up, whatever the order of the rows: falling, or row by row, the last bit would be another. */
     CHECK(groups_fresh(3, starts3, 4, columns3, 3, rates114, 3, rows_falling, COUNT(rows_falling)) == 0 && answer_is(28, 0, 0));
@@ -207,7 +88,7 @@ static void groups_refusals(void)
 /* A call with everything wrong, then mended in one thing after the other: the refusals come in their order. */
 static void groups_order(void)
 {
-    static const uint32_t late[] = {1, 1, 2, 3}, own[] = {1, 1, 0}, stuck[] = {2, 4, 0};
+    static const uint32_t late[] = {1, 1, 2, 3}, own[] = {1, 1, 0}, stuck[] = {2, 0, 0}; /* only 0 to 1: two closed sets, 1 and 2 */
     static const uint32_t bad_row[] = {0, 1, 3, 1, 1, 16}, twice[] = {0, 1, 3, 1, 1, 15}, missing[] = {0, 1, 3};
     static const struct {
         uint32_t number;
@@ -225,7 +106,7 @@ static void groups_order(void)
         {12, 1, 0, 3, starts3, columns3, stuck, 3, twice, 6, 15},
         {11, 2, 0, 3, starts3, columns3, stuck, 3, missing, 3, 15},
         {5, 0, 0, 3, starts3, columns3, stuck, 3, table3, 6, 15},
-        {6, 1, 0, 3, starts3, columns3, stuck, 3, table3, 6, 16},
+        {6, 1, 2, 3, starts3, columns3, stuck, 3, table3, 6, 16},
         {0, 28, 0, 3, starts3, columns3, rates3, 3, table3, 6, 16},
     };
 
@@ -241,8 +122,7 @@ static void groups_order(void)
 
 static void solve_refusals(void)
 {
-    static const uint32_t none[1], own[] = {0, 0}, falls[] = {0, 2, 1}, one_way[] = {0, 1, 1}, three[] = {0, 1, 2, 3};
-    static const uint32_t back[] = {1, 0, 0}, ones[] = {1, 1, 1}, zero_rate[] = {0, 5};
+    static const uint32_t none[1], own[] = {0, 0}, falls[] = {0, 2, 1}, ones[] = {1, 1, 1};
 
     CHECK(solve_fresh(0, none, 1, none, 0, none, 0) == 1 && answer_is(0, 0, STALL_CHAIN) && results_unchanged());
     CHECK(solve_fresh(65, none, 1, none, 0, none, 0) == 1 && answer_is(0, 0, STALL_CHAIN) && results_unchanged());
@@ -251,12 +131,51 @@ static void solve_refusals(void)
     CHECK(solve_fresh(2, falls, 3, columns2, 1, rates2, 1) == 3 && answer_is(0, 0, STALL_CHAIN) && results_unchanged());
     CHECK(solve_fresh(2, starts2, 3, own, 2, rates2, 2) == 4 && answer_is(0, 0, STALL_CHAIN) && results_unchanged());
     CHECK(solve_fresh(2, starts2, 3, ones, 2, rates2, 2) == 4 && answer_is(1, 1, STALL_CHAIN) && results_unchanged());
-    CHECK(solve_fresh(2, one_way, 3, columns2, 1, rates2, 1) == 6 && answer_is(1, 0, STALL_CHAIN) && results_unchanged());
-    /* cases 6 and 7 */
-    CHECK(solve_fresh(2, starts2, 3, columns2, 2, zero_rate, 2) == 6 && answer_is(0, 1, STALL_CHAIN) && results_unchanged());
-    CHECK(solve_fresh(3, three, 4, back, 3, ones, 3) == 6 && answer_is(0, 2, STALL_CHAIN) && results_unchanged());
     /* case 1 */
     CHECK(solve_fresh(1, own, 2, none, 0, none, 0) == 0 && answer_is(0, 0, 0) && weight_m[0] == 2147483648u && weight_e[0] == -31);
+}
+
+/* Two closed sets or more: 6 with the two lowest of their lowest states. */
+static void closed_sets_refused(void)
+{
+    static const uint32_t none[1], no_entries[65], zeros[] = {0, 0};
+    static const uint32_t pairs[] = {0, 1, 2, 3, 4}, across[] = {1, 0, 3, 2}, crossed[] = {3, 2, 1, 0}, fours[] = {4, 4, 4, 4};
+    static const uint32_t three[] = {0, 1, 1, 2, 3, 3}, to[] = {4, 3, 2}, ones[] = {1, 1, 1};
+
+    CHECK(solve_fresh(2, no_entries, 3, none, 0, none, 0) == 6 && answer_is(0, 1, STALL_CHAIN) && results_unchanged());
+    CHECK(solve_fresh(2, starts2, 3, columns2, 2, zeros, 2) == 6 && answer_is(0, 1, STALL_CHAIN) && results_unchanged());
+    CHECK(solve_fresh(64, no_entries, 65, none, 0, none, 0) == 6 && answer_is(0, 1, STALL_CHAIN) && results_unchanged());
+    /* 0 and 1, 2 and 3; then 0 and 3, 1 and 2 */
+    CHECK(solve_fresh(4, pairs, 5, across, 4, fours, 4) == 6 && answer_is(0, 2, STALL_CHAIN) && results_unchanged());
+    CHECK(solve_fresh(4, pairs, 5, crossed, 4, fours, 4) == 6 && answer_is(0, 1, STALL_CHAIN) && results_unchanged());
+    /* three sets: 1, then 2 and 3, then 4, into which 0 leads */
+    CHECK(solve_fresh(5, three, 6, to, 3, ones, 3) == 6 && answer_is(1, 2, STALL_CHAIN) && results_unchanged());
+}
+
+/* One closed set, and states outside it: they get Zero, and the count is that of the set. */
+static void states_outside(void)
+{
+    static const uint32_t one_way[] = {0, 1, 1}, zero_rate[] = {0, 5}, table7[] = {2, 2, 4, 0, 1, 9}, mixed7[] = {1, 2, 4, 0, 0, 9};
+    static const uint32_t starts5[] = {0, 1, 2, 4, 6, 7}, columns5[] = {2, 3, 1, 4, 1, 2, 0}, rates5[] = {2, 7, 0, 4, 1, 1, 8};
+
+    CHECK(solve_fresh(2, one_way, 3, columns2, 1, rates2, 1) == 0 && answer_is(0, 0, 0) && solved_in_place(2)); /* only 0 to 1 */
+    CHECK(state_is(0, 0, 0, 0, 0) && state_is(1, 2147483648u, -31, 2147483648u, -31));
+    /* case 6, case 7 */
+    CHECK(solve_fresh(2, starts2, 3, columns2, 2, zero_rate, 2) == 0 && answer_is(0, 0, 0) && solved_in_place(2));
+    CHECK(state_is(0, 2147483648u, -31, 2147483648u, -31) && state_is(1, 0, 0, 0, 0));
+    CHECK(solve_fresh(3, starts3, 4, columns7, 3, rates7, 3) == 0 && answer_is(8, 0, 0) && solved_in_place(3));
+    CHECK(state_is(0, 2147483648u, -31, 2147483648u, -32) && state_is(1, 2147483648u, -31, 2147483648u, -32) && state_is(2, 0, 0, 0, 0));
+    /* The ring of case 3 as states 0, 2 and 4; from 1 and 3, which lead to each other, the way goes to 2, and a rate of 0 back to 1. */
+    CHECK(solve_fresh(5, starts5, 6, columns5, 7, rates5, 7) == 0 && answer_is(28, 0, 0) && solved_in_place(5));
+    for (int i = 0; i < 3; i++)
+        CHECK(state_is(2 * i, 2147483648u, -29 - i, 2454267026u, -32 - i));
+    CHECK(state_is(1, 0, 0, 0, 0) && state_is(3, 0, 0, 0, 0));
+
+    /* Case 7 by group: a group outside is Zero, one with a state outside has the share of its others. */
+    CHECK(groups_fresh(3, starts3, 4, columns7, 3, rates7, 3, table7, COUNT(table7)) == 0 && answer_is(8, 0, 0) && solved_in_place(3));
+    CHECK(group_is(4, 0, 0) && group_is(9, 2147483648u, -31));
+    CHECK(groups_fresh(3, starts3, 4, columns7, 3, rates7, 3, mixed7, COUNT(mixed7)) == 0 && answer_is(8, 0, 0) && solved_in_place(3));
+    CHECK(group_is(4, 2147483648u, -32) && group_is(9, 2147483648u, -32));
 }
 
 static void read_refusals(void)
@@ -281,6 +200,13 @@ static void short_buffers(void)
         mark();
         CHECK(stall_solve(2, starts2, 3, columns2, 2, rates2, 2, work_m, 4 - (i == 0), work_e, 4 - (i == 1), weight_m, 2 - (i == 2),
                           weight_e, 2 - (i == 3), share_m, 2 - (i == 4), share_e, 2 - (i == 5), answer, COUNT(answer)) == 5);
+        CHECK(answer_is(0, 0, STALL_CHAIN) && results_unchanged());
+    }
+    /* The same for case 7: room for the two states of the closed set is not enough. */
+    for (int i = 0; i < 6; i++) {
+        mark();
+        CHECK(stall_solve(3, starts3, 4, columns7, 3, rates7, 3, work_m, i == 0 ? 4 : 9, work_e, i == 1 ? 8 : 9, weight_m, 3 - (i == 2),
+                          weight_e, 3 - (i == 3), share_m, 3 - (i == 4), share_e, 3 - (i == 5), answer, COUNT(answer)) == 5);
         CHECK(answer_is(0, 0, STALL_CHAIN) && results_unchanged());
     }
     /* The eight of solving by group, and none of them short. */
@@ -350,34 +276,35 @@ static void largest(void)
 }
 
 /* Moves between neighbours of 64 states, up by rate 1, down by the highest: shares down to about 2^-2016. Then the same without the
- * last move up, which is refused when all the other checks have passed. */
+ * last move up, so that the last state is outside the closed set; then also cut between 31 and 32, so that there are two. */
 static void rarest(void)
 {
     static uint32_t s[65], c[126], r[126];
-    size_t k = 0, last_up = 0;
-    for (uint32_t i = 0; i < 64; i++) {
+    for (uint32_t i = 0; i < 64; i++) { /* down stands at place 2 i - 1, up at 2 i */
         if (i > 0) {
-            c[k] = i - 1;
-            r[k++] = UINT32_MAX;
+            c[2 * i - 1] = i - 1;
+            r[2 * i - 1] = UINT32_MAX;
         }
         if (i < 63) {
-            last_up = k;
-            c[k] = i + 1;
-            r[k++] = 1;
+            c[2 * i] = i + 1;
+            r[2 * i] = 1;
         }
-        s[i + 1] = (uint32_t)k;
+        s[i + 1] = i < 63 ? 2 * i + 1 : 126;
     }
-    CHECK(solve_fresh(64, s, 65, c, k, r, k) == 0 && answer_is(182784, 0, 0));
-    CHECK(all_zero(work_m, sizeof work_m) && all_zero(work_e, sizeof work_e));
-    for (int i = 0; i < 64; i++) {
-        CHECK(weight_m[i] >= 2147483648u && share_m[i] >= 2147483648u);
-        /* The exact weight over the last one is (2^32 - 1)^(63 - i), a little below 2^(32 * (63 - i)) but for the last. */
-        CHECK(weight_e[i] == (i < 63 ? 32 * (63 - i) - 32 : -31));
-        /* The exact share is about 2^(-32 * i); where rounding leaves it is known from the model in tests/. */
-        CHECK(share_e[i] == -32 * i - 31);
+    for (int last = 63; last >= 62; last--) {
+        CHECK(solve_fresh(64, s, 65, c, 126, r, 126) == 0 && answer_is(last == 63 ? 182784 : 174468, 0, 0) && solved_in_place(64));
+        for (int i = 0; i <= last; i++) {
+            CHECK(weight_m[i] >= 2147483648u && share_m[i] >= 2147483648u);
+            /* The exact weight over the last one is (2^32 - 1)^(last - i), a little below 2^(32 * (last - i)) but for the last. */
+            CHECK(weight_e[i] == (i < last ? 32 * (last - i) - 32 : -31));
+            /* The exact share is about 2^(-32 * i); where rounding leaves it is known from the model in tests/. */
+            CHECK(share_e[i] == -32 * i - 31);
+        }
+        CHECK(last == 63 || state_is(63, 0, 0, 0, 0));
+        r[2 * 62] = 0;
     }
-    r[last_up] = 0;
-    CHECK(solve_fresh(64, s, 65, c, k, r, k) == 6 && answer_is(0, 63, STALL_CHAIN) && results_unchanged());
+    r[2 * 31] = r[2 * 32 - 1] = 0;
+    CHECK(solve_fresh(64, s, 65, c, 126, r, 126) == 6 && answer_is(0, 32, STALL_CHAIN) && results_unchanged());
 }
 
 int main(void)
@@ -387,6 +314,8 @@ int main(void)
     groups_refusals();
     groups_order();
     solve_refusals();
+    closed_sets_refused();
+    states_outside();
     read_refusals();
     short_buffers();
     short_answers();

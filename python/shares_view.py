@@ -11,13 +11,14 @@ from stored_chain import LONGEST_FILE, write
 
 REASONS = {
     1: "the number of states is 0 or above 64",
-    6: "a state does not reach another: from {0} to {1} there is no way",
+    6: "the chain has two or more closed sets of states and never leaves one that it has entered: {0} is in one, {1} in another",
     8: "the bytes end early",
     9: "row {0} has an entry at column {1}, which is its own row or no state",
     10: "bytes are left over after the last row",
 }
 WORD = 2**31  # a factor is 2^31 / (2^31 - 1)
 BAR = 40
+LEFT = "left for good"  # in the place of a bar, for a state outside the closed set
 
 
 # ---- the chain and the names of its states
@@ -138,19 +139,32 @@ def log10(x):
 
 # ---- the display
 
+def headline(path, states, inside, count):
+    """How many states there are and keep a share, and what the bound says of it."""
+    held = "each share" if inside == states else f"{inside} of them in the closed set, each share there"
+    factors = "1 factor" if count == 1 else f"{count} factors"
+    return f"{path}: {states} states, {held} within {factors} of the exact one: relative error below {relative(count)}"
+
+
 def display(path, text, names):
-    """The lines for the user: each state, its share in the digits that the bound guarantees, and a bar."""
+    """The lines for the user: each state, its share in the digits that the bound guarantees, and a bar.
+
+    A state has the share Zero if and only if it is outside the closed set; K and the bound count the states inside.
+    """
     (_, _, _, bound), *lines = [line.split() for line in text.splitlines()]
     shares = [Fraction(int(m)) * Fraction(2) ** int(e) for _, _, _, m, e in lines]
-    count = 2 * int(bound) + len(shares)
+    inside = sum(share > 0 for share in shares)
+    if not inside:
+        raise Stop("the printing program gave no state a share", LOST)
+    count = 2 * int(bound) + inside
     names = [called(names, i) for i in range(len(shares))]
     texts = [decimal(*guaranteed(share, count)) if share else "0" for share in shares]
     logs = [log10(share) if share else None for share in shares]
-    lowest = math.floor(min((log for log in logs if log is not None), default=0)) - 1
-    bars = ["" if log is None else "#" * max(1, round(BAR * (log - lowest) / -lowest)) for log in logs]
+    lowest = math.floor(min(log for log in logs if log is not None)) - 1
+    bars = [LEFT if log is None else "#" * max(1, round(BAR * (log - lowest) / -lowest)) for log in logs]
     wide, long = max(map(len, names)), max(map(len, texts))
     head = [
-        f"{path}: {len(shares)} states, each share within {count} factors of the exact one: relative error below {relative(count)}",
+        headline(path, len(shares), inside, count),
         f"bars on a log scale: empty at 1e{lowest}, full ({BAR} marks) at 1; digits as far as the bound guarantees them",
         "",
     ]

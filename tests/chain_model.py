@@ -1,7 +1,7 @@
-"""An independent model of chains in rows: refusals 1 to 4 and 6, the row look-up, and the masks of the reached states.
+"""An independent model of chains in rows: refusals 1 to 4 and 6, the row look-up, the masks of the reached states and the closed sets.
 
-It is written from document 01 alone, with a plain graph search, and shares no code with the crates. It generates the input
-of the program crates/chain_run, sound and broken chains, and the lines that the program has to print.
+It is written from document 01 and request R-3 alone, with a plain graph search, and shares no code with the crates. It generates
+the input of the program crates/chain_run, sound and broken chains, and the lines that the program has to print.
 """
 import random
 import struct
@@ -47,6 +47,16 @@ def reached(n, starts, columns, rates):
     return sets
 
 
+def closed_sets(sets):
+    """The closed sets, by their lowest states, from what each state reaches.
+
+    Request R-3: each state of a closed set reaches all the others of the set and nothing outside it. So what a state of it
+    reaches is the set, and this is so for every state of it.
+    """
+    found = {min(own): sorted(own) for own in sets if all(sets[j] == own for j in own)}
+    return [found[lowest] for lowest in sorted(found)]
+
+
 def line(n, row, starts, columns, rates):
     refusal = check(n, starts, columns, rates)
     accepts = ["accepts", len(columns)]
@@ -54,8 +64,8 @@ def line(n, row, starts, columns, rates):
         words = ["check", "refuses", *refusal, "answer", "refuses", *refusal, "row", "masks"]
         return " ".join(map(str, words))
     sets = reached(n, starts, columns, rates)
-    missing = [(i, j) for i in range(n) for j in range(n) if j not in sets[i]]
-    answer = ["refuses", 6, *min(missing)] if missing else accepts
+    lowest = [states[0] for states in closed_sets(sets)]
+    answer = ["refuses", 6, *lowest[:2]] if len(lowest) > 1 else accepts
     part = rates[starts[row] : starts[row + 1]] if row < n else []
     masks = [x for i in range(n) for x in (i, sum(1 << j for j in sets[i]))]
     words = ["check", *accepts, "answer", *answer, "row", *part, "masks", *masks]
@@ -78,17 +88,37 @@ def some_rate(rng):
     return rng.choice([0, 1, 1, 1, 2, rng.randrange(1, 1000), LARGEST])
 
 
+def ring_through(rng, entries, states):
+    """Adds a ring through these states, in any order."""
+    order = rng.sample(states, len(states))
+    for a, b in zip(order, order[1:] + order[:1]):
+        if a != b:
+            entries[a, b] = rng.randrange(1, 9)
+
+
+def settled(rng, n, entries):
+    """Makes some states a closed set, to which the others lead: at most a rate of 0 leads out of it."""
+    order = rng.sample(range(n), n)
+    inside = order[:rng.randint(1, n)]
+    for i, j in list(entries):
+        if i in inside and j not in inside:
+            entries[i, j] = 0
+    ring_through(rng, entries, inside)
+    for place in range(len(inside), n):
+        entries[order[place], rng.choice(order[:place])] = rng.randrange(1, 9)
+
+
 def some_chain(rng):
     n = rng.choice([1, 1, 2, 2, 3, 3, 4, 5, 6, 8, 12, 31, 32, 33, 63, 64])
     density = rng.choice([0.5, 1.0, 1.5, 3.0]) / n
     entries = {
         (i, j): some_rate(rng) for i in range(n) for j in range(n) if i != j and rng.random() < density
     }
-    if rng.random() < 0.5:  # a ring through all states, so that many chains have an answer
-        order = rng.sample(range(n), n)
-        for a, b in zip(order, order[1:] + order[:1]):
-            if a != b:
-                entries[a, b] = rng.randrange(1, 9)
+    kind = rng.random()  # by chance alone many chains have two closed sets or more
+    if kind < 0.3:
+        ring_through(rng, entries, range(n))
+    elif kind < 0.7:
+        settled(rng, n, entries)
     return n, *rows_of(n, entries)
 
 
@@ -121,7 +151,7 @@ def damaged(rng, n, starts, columns, rates):
 
 
 def chains(rng):
-    # document 01's own: case 1, 2, 3, 4, 6, 7, the example of 6, and of 1 to 4
+    # document 01's own: case 1, 2, 3, 4, 6, 7, its example of 6, which R-3 accepts, and its examples of 1 to 4
     yield 1, 0, [0, 0], [], []
     yield 2, 0, [0, 1, 2], [1, 0], [3, 1]
     yield 3, 1, [0, 1, 2, 3], [1, 2, 0], [2, 4, 8]
@@ -137,6 +167,11 @@ def chains(rng):
     yield 2, 0, [0, 1, 1], [0], [1]
     # case 10: 64 states, every rate 1
     yield 64, 63, *rows_of(64, {(i, j): 1 for i in range(64) for j in range(64) if i != j})
+    # request R-3: its example of 6; three closed sets, 1, then 2 and 4, then 3; 64 of them; one, the last of 64 states in a line
+    yield 2, 1, [0, 0, 0], [], []
+    yield 5, 4, *rows_of(5, {(0, 2): 1, (0, 3): 2, (2, 4): 3, (4, 2): 4, (4, 0): 0})
+    yield 64, 0, [0] * 65, [], []
+    yield 64, 62, *rows_of(64, {(i, i + 1): 1 for i in range(63)})
     for _ in range(200):
         chain = some_chain(rng)
         yield chain[0], rng.randrange(chain[0] + 2), *chain[1:]

@@ -2,9 +2,10 @@
 
 It follows the sentences of document 01 one by one: the order of every sum, one quotient t(j) for each j of a step,
 entry + entry * t(j), the sum of the way back divided once, and shares by the total taken from state 0 up. Every rate and
-every result of an operation passes `within_range`.
+every result of an operation passes `within_range`. By request R-3 the states of the one closed set are solved as a chain of
+their own, in state order; the others get Zero.
 """
-from chain_model import reached, rows_of
+from chain_model import closed_sets, reached, rows_of
 from scaled_model import ZERO, product_of, quotient_of, rate_of, sum_of
 from stored_chain import Refused, read
 
@@ -15,11 +16,26 @@ def bound_count(n):
     return (2 * n**3 + 6 * n**2 - 8 * n) // 3
 
 
-def first_unreached(rows):
-    """The lowest state that does not reach another, with the lowest such other; None if every state reaches every other."""
+def closed_set(rows):
+    """The states of the one closed set, rising; Refused by 6, with the lowest states of the two lowest sets, if there are more."""
     n = len(rows)
     sets = reached(n, *rows_of(n, {(i, j): rate for i, row in enumerate(rows) for j, rate in row}))
-    return next(((i, j) for i in range(n) for j in range(n) if j not in sets[i]), None)
+    closed = closed_sets(sets)
+    if len(closed) > 1:
+        raise Refused(6, closed[0][0], closed[1][0])
+    return closed[0]
+
+
+def alone(rows, states):
+    """The chain of these states, numbered in their order. Out of a closed set only entries of rate 0 lead; they are left out."""
+    place = {state: at for at, state in enumerate(states)}
+    return [[(place[j], rate) for j, rate in rows[i] if j in place] for i in states]
+
+
+def spread(n, states, numbers):
+    """Each number at its state, Zero at all others."""
+    given = dict(zip(states, numbers))
+    return [given.get(i, ZERO) for i in range(n)]
 
 
 def within_range(x):
@@ -82,23 +98,22 @@ def back(a, pivots):
 
 
 def solve(rows):
-    """The weights and shares of a chain that keeps the rules 1 to 4; Refused with 6."""
-    pair = first_unreached(rows)
-    if pair:
-        raise Refused(6, *pair)
-    a = entries(rows)
+    """The bound count, the weights and the shares of a chain that keeps the rules 1 to 4; Refused by 6."""
+    n, states = len(rows), closed_set(rows)
+    a = entries(alone(rows, states))
     weights = back(a, eliminate(a))
     total = total_of(weights)
-    return weights, [over(w, total) for w in weights]
+    shares = [over(w, total) for w in weights]
+    return bound_count(len(states)), spread(n, states, weights), spread(n, states, shares)
 
 
 def printed(data):
     """What the printing program writes for these bytes on standard input."""
     try:
         rows = read(data)
-        weights, shares = solve(rows)
+        count, weights, shares = solve(rows)
     except Refused as refusal:
         return f"{refusal}\n"
-    lines = [f"states {len(rows)} bound {bound_count(len(rows))}"]
+    lines = [f"states {len(rows)} bound {count}"]
     lines += [f"{i} {w[0]} {w[1]} {s[0]} {s[1]}" for i, (w, s) in enumerate(zip(weights, shares))]
     return "\n".join(lines) + "\n"

@@ -1,4 +1,7 @@
-"""A seeded generator of stored chains, sound and damaged. File number i of seed s is the same on every machine."""
+"""A seeded generator of stored chains, sound and damaged. File number i of seed s is the same on every machine.
+
+A sound chain has one closed set, of all states or of some, or several.
+"""
 import math
 import random
 
@@ -56,8 +59,12 @@ def birth_death(rng, n):
     return chain_of(n, lambda i, j: {1: up, -1: down}[j - i] or any_rate(rng) if abs(i - j) == 1 else None)
 
 
+# every state reaches every other
+CONNECTED = (dense, small_rates, extreme_rates, ring, sparse, nearly_decomposable, birth_death)
+
+
 def loose(rng, n):
-    """Entries by chance: many such chains leave a pair unreached."""
+    """Entries by chance: many such chains have several closed sets."""
     chance = rng.uniform(0.5, 3) / n
     return chain_of(n, lambda i, j: any_rate(rng) if rng.random() < chance else None)
 
@@ -68,7 +75,77 @@ def one_way(rng, n):
     return chain_of(n, lambda i, j: rng.choice((None, 0)) if part[i] and not part[j] else any_rate(rng))
 
 
-SHAPES = (dense, small_rates, extreme_rates, ring, sparse, sparse, nearly_decomposable, birth_death, loose, one_way)
+# ---- request R-3: closed sets, and power-on states, from which every way leads into one
+
+def place_of_set(rng, n, size):
+    """So many states: the last, the first, some in the middle, both ends and others, or any."""
+    kind = rng.choice(("last", "first", "middle", "ends", "any", "any"))
+    if kind == "ends" and size > 1:
+        return [0, *sorted(rng.sample(range(1, n - 1), size - 2)), n - 1]
+    if kind in ("ends", "any"):
+        return sorted(rng.sample(range(n), size))
+    first = {"last": n - size, "first": 0, "middle": (n - size) // 2}[kind]
+    return list(range(first, first + size))
+
+
+def on_the_way(rng, moves, inside, outside):
+    """Moves of the states outside the closed sets, so that each leads into one: alone, in a ring or back and forth among themselves."""
+    kind = rng.choice(("on", "ring", "any"))
+    for at, i in enumerate(outside):
+        before = [outside[at - 1]] if kind == "ring" and at else inside + outside[:at]
+        moves[i, rng.choice(before)] = any_rate(rng)
+    if kind == "ring" and len(outside) > 1:
+        moves[outside[0], outside[-1]] = any_rate(rng)
+    if kind == "any":
+        chance = rng.uniform(0.5, 4) / (len(inside) + len(outside))
+        for i in outside:
+            for j in inside + outside:
+                if i != j and rng.random() < chance:
+                    moves[i, j] = any_rate(rng)
+
+
+def with_sets(rng, n, sets):
+    """A chain with these closed sets. In some chains entries of rate 0 lead out of them."""
+    moves = {}
+    for states in sets:
+        for i, row in zip(states, rng.choice(CONNECTED)(rng, len(states))):
+            moves.update({(i, states[j]): rate for j, rate in row})
+    inside = [i for states in sets for i in states]
+    outside = rng.sample([i for i in range(n) if i not in inside], n - len(inside))
+    on_the_way(rng, moves, inside, outside)
+    chance = rng.choice((0, 0, 0.1, 0.5))
+    for states in sets:
+        moves.update({(i, j): 0 for i in states for j in range(n) if j not in states and rng.random() < chance})
+    return chain_of(n, lambda i, j: moves.get((i, j)))
+
+
+def power_on(rng, n):
+    """One closed set and, unless n is 1, states outside."""
+    size = rng.choice((n - 1, rng.randint(1, n), rng.randint(n // 2, n)))
+    return with_sets(rng, n, [place_of_set(rng, n, max(1, min(size, n - 1)))])
+
+
+def settles_in_one(rng, n):
+    """A closed set of one state: the first, the last, the middle one or any."""
+    return with_sets(rng, n, [[rng.choice((0, n - 1, n // 2, rng.randrange(n)))]])
+
+
+def several_sets(rng, n):
+    """Two or three closed sets, where there are so many states; a state outside leads into some of them."""
+    many = min(n, rng.choice((2, 2, 3)))
+    inside = rng.sample(range(n), rng.randint(many, n))
+    cuts = [0, *sorted(rng.sample(range(1, len(inside)), many - 1)), len(inside)]
+    return with_sets(rng, n, [sorted(inside[a:b]) for a, b in zip(cuts, cuts[1:])])
+
+
+def no_moves(rng, n):
+    """No entries, or entries of rate 0 alone: each state is a closed set."""
+    chance = rng.choice((0, 0.5))
+    return chain_of(n, lambda i, j: 0 if rng.random() < chance else None)
+
+
+# more than half have power-on states, so that of all files, with the damaged ones, a third have
+SHAPES = (*CONNECTED, *CONNECTED, loose, one_way, *[power_on] * 23, settles_in_one, several_sets, several_sets, no_moves)
 
 
 def order(rng):
@@ -166,8 +243,8 @@ DAMAGES = (cut, cut, cut, longer, own_bit, high_bit, high_bit, bad_bit_then_cut,
 
 
 def stored(seed, index):
-    """The bytes of file number index: about two thirds sound."""
+    """The bytes of file number index: about seven of ten sound."""
     rng = random.Random(f"{seed}/{index}")
     rows = sound(rng)
     data = write(rows)
-    return data if rng.random() < 0.65 else rng.choice(DAMAGES)(rng, rows, data)
+    return data if rng.random() < 0.7 else rng.choice(DAMAGES)(rng, rows, data)

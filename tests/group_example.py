@@ -11,8 +11,8 @@ ROOT = Path(__file__).resolve().parent.parent
 sys.path[:0] = [str(ROOT / "tests"), str(ROOT / "python")]
 
 from chain_text import parse  # noqa: E402
-from elimination_model import bound_count, solve  # noqa: E402
-from exact_solver import weights_by_minors, within  # noqa: E402
+from elimination_model import solve  # noqa: E402
+from exact_solver import exact_weights, within  # noqa: E402
 from groups_model import check_table, group_shares, states_of  # noqa: E402
 from scaled_model import value  # noqa: E402
 from shares_view import decimal, guaranteed, rounded  # noqa: E402
@@ -35,8 +35,9 @@ def group_example():
     names, rows = parse(EXAMPLES / "station.txt")
     table = table_of(EXAMPLES / "station.groups")
     check_table(len(rows), table)
-    shares = group_shares(table, solve(rows)[1])
-    exact, count = weights_by_minors(rows), 2 * bound_count(len(rows)) + 2 * len(rows)
+    bound, _, shares = solve(rows)
+    shares = group_shares(table, shares)
+    exact, count = exact_weights(rows), 2 * bound + 2 * len(rows)
     readme = (EXAMPLES / "README.md").read_text(encoding="utf-8")
     assert f"2K + 2n = {count} factors" in readme, count
     told = {int(group): (called, digits) for group, called, digits in LINE.findall(readme)}

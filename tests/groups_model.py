@@ -8,7 +8,7 @@ from collections import Counter, namedtuple
 from itertools import groupby
 
 from chain_model import check
-from elimination_model import bound_count, solve, total_of
+from elimination_model import solve, total_of
 from stored_chain import Refused
 
 GROUPS = 16
@@ -80,9 +80,9 @@ def solved(call):
     check_table(n, call.table)
     if any(lent < need for lent, need in zip(call.lent, places_needed(n))):
         raise Refused(5)
-    weights, shares = solve(chain_rows(call))
+    count, weights, shares = solve(chain_rows(call))
     numbers = ([(0, 0)] * (n * n), weights, shares, group_shares(call.table, shares))
-    return bound_count(n), [list(part) for pairs in numbers for part in zip(*pairs)]
+    return count, [list(part) for pairs in numbers for part in zip(*pairs)]
 
 
 def outcome(call):

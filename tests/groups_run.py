@@ -1,20 +1,19 @@
 """The seeded calls for crates/groups_run, sound and broken, each after its length in two bytes, low byte first, and the lines that the
 program has to print for them, from groups_model.py. Call number i of seed s is the same on every machine.
 
-The first calls are the edges of request R-1, each with its verdict worked out by hand (`EDGES`), and bytes that are just no call; the
-rest are drawn by chance.
+The first calls are the edges of requests R-1 and R-3, each with its verdict worked out by hand (`EDGES`), and bytes that are just no
+call; the rest are drawn by chance.
 """
 import random
 
 from chain_model import damaged
-from generate import SHAPES, TOP, birth_death, chain_of, dense, extreme_rates, nearly_decomposable, order, ring, small_rates, sparse
+from generate import CONNECTED, SHAPES, TOP, chain_of, dense, nearly_decomposable, no_moves, order, ring, small_rates, sparse, with_sets
 from generate import with_zero_rates
 from groups_model import Call, packed, places_needed, told
 from worked import all_ones
 
 SEED, COUNT = 1, 400  # of the stored input
 ORDER = (1, 2, 3, 4, 13, 12, 11, 5, 6)  # in which the refusals are tried
-CONNECTED = (dense, small_rates, extreme_rates, ring, sparse, nearly_decomposable, birth_death)
 RING = [[(1, 2)], [(2, 4)], [(0, 8)]]  # case 3 of document 01
 
 
@@ -160,7 +159,7 @@ def one_less(lent, at):
 
 def some_call(rng):
     n = order(rng)
-    rows = rng.choice(SHAPES)(rng, n) if rng.random() < 0.3 else connected(rng, n)
+    rows = rng.choice(SHAPES)(rng, n) if rng.random() < 0.7 else connected(rng, n)
     rows = with_zero_rates(rng, rows) if rng.random() < 0.1 else rows
     call = call_of(rows, some_table(rng, n), some_lent(rng, n))
     if rng.random() < 0.1:
@@ -251,6 +250,36 @@ def table_edges():
     yield "refused 13 300 0", with_table(2, [0, 0, 4] * 300 + [1, 0, 0] * 200)
 
 
+def with_closed(n, sets, table, lent=None):
+    """A call for a chain with these closed sets."""
+    return lambda rng: call_of(with_sets(rng, n, sets), table, lent)
+
+
+def set_edges():
+    """Request R-3: states outside the closed set, in groups of their own and with others; as many places are needed as for all states."""
+    seven = places_needed(7)
+    yield "accepted 0", lambda rng: call_of([[(1, 0)], [(0, 5)]], [0, 0, 1, 1, 1, 2])  # case 6
+    yield "accepted 8", lambda rng: call_of([[(1, 1)], [(0, 1)], [(0, 1)]], [0, 0, 1, 1, 2, 2])  # case 7
+    yield accepted(3), with_closed(7, [[0, 1, 2]], [0, 2, 5, 3, 6, 6])  # the last four in a group of their own
+    yield accepted(3), with_closed(7, [[4, 5, 6]], [0, 3, 6, 4, 6, 5])  # the first four
+    yield accepted(3), with_closed(7, [[1, 3, 5]], flat(each_alone(7, 9)))  # all in one group
+    yield accepted(1), with_closed(7, [[3]], [0, 2, 1, 3, 3, 2, 4, 6, 3])
+    yield accepted(6), with_closed(7, [[0, 1, 2, 3, 4, 6]], [6, 6, 0, 5, 5, 15, 0, 4, 7], tuple(need + 2 for need in seven))
+    yield accepted(8), lambda rng: call_of(with_sets(rng, 64, [list(range(3, 64, 8))]), flat(singles(rng, 64)))
+    yield accepted(63), lambda rng: call_of(with_sets(rng, 64, [list(range(63))]), [0, 62, 2, 63, 63, 3])
+    # room for the set alone is not enough: each slice one short, then with the set's places
+    for at in range(8):
+        yield "refused 5 0 0", with_closed(7, [[2, 3, 4]], [0, 6, 2], one_less(seven, at))
+    yield "refused 5 0 0", with_closed(7, [[2, 3, 4]], [0, 6, 2], places_needed(3))
+    # several closed sets
+    yield "refused 6 0 1", lambda rng: call_of([[], []], [0, 1, 0])
+    yield "refused 6 1 4", with_closed(7, [[1, 2, 3], [4, 5]], [0, 6, 2])
+    yield "refused 6 2 3", with_closed(7, [[2, 6], [3, 5], [4]], [0, 6, 2])
+    yield "refused 6 0 1", lambda rng: call_of(no_moves(rng, 64), [0, 63, 2])
+    yield "refused 5 0 0", with_closed(7, [[1], [2]], [0, 6, 2], one_less(seven, 0))
+    yield "refused 11 6 0", with_closed(7, [[1], [2]], [0, 5, 2])
+
+
 def sum_edges():
     """Chains and tables in which the order of a sum shows, rare states and the largest orders."""
     for n in (6, 10, 17, 24, 33):
@@ -284,7 +313,7 @@ def lent_edges():
     yield "refused 5 0 0", with_table(7, [0, 6, 2], (0,) * 8)
 
 
-# for each refusal a change of a sound call of five states that brings it about
+# for each refusal a change of a sound call of five states that brings it about; for 6 two states are left by no move
 FAULTS = {
     1: lambda call: call._replace(n=65),
     2: lambda call: call._replace(rates=call.rates[:-1]),
@@ -294,7 +323,7 @@ FAULTS = {
     12: lambda call: call._replace(table=call.table + [1, 1, 3]),
     11: lambda call: call._replace(table=call.table[3:]),
     5: lambda call: call._replace(lent=one_less(call.lent, 6)),
-    6: lambda call: call._replace(rates=[0] * call.starts[1] + call.rates[call.starts[1]:]),
+    6: lambda call: call._replace(rates=[0] * call.starts[2] + call.rates[call.starts[2]:]),
 }
 PLACES = {6: (0, 1), 12: (1, 0)}
 
@@ -330,7 +359,7 @@ def frame_edges():
     yield "refused 1 0 0", lambda rng: bytes(52)
 
 
-EDGES = (*table_edges(), *sum_edges(), *lent_edges(), *fault_edges(), *frame_edges())
+EDGES = (*table_edges(), *set_edges(), *sum_edges(), *lent_edges(), *fault_edges(), *frame_edges())
 
 
 # ---- the input

@@ -4,17 +4,21 @@ import subprocess
 import sys
 import tempfile
 from fractions import Fraction
+from itertools import combinations
 from pathlib import Path
 
+import closed_files
 import worked
-from elimination_model import bound_count, eliminate, first_unreached, printed
-from exact_solver import FACTOR, at_most_times, balances, weights_by_minors, weights_by_trees
+from chain_model import closed_sets, reached, rows_of
+from elimination_model import bound_count, eliminate, printed
+from exact_solver import FACTOR, at_most_times, balanced_lists, closed_components, exact_problem, exact_weights, taken_alone
+from exact_solver import weights_by_minors, weights_by_trees
 from generate import sound, stored
 from groups_model import GROUPS, HELD, outcome, packed, places_needed, told
 from groups_run import EDGES, ORDER, call_bytes, call_of
 from scaled_model import ZERO, is_scaled, product_of, quotient_of, rate_of, sum_of, value
 from shares_view import guaranteed, relative, rounded
-from stored_chain import read, write
+from stored_chain import Refused, read, write
 
 ROOT = Path(__file__).resolve().parent.parent
 
@@ -23,13 +27,23 @@ def worked_cases():
     for name, digits, text in worked.PRINTED:
         assert printed(bytes.fromhex(digits)) == text, name
     for name, rows, weights in worked.EXACT_WEIGHTS:
-        assert weights_by_trees(rows) == weights_by_minors(rows) == weights, name
+        assert exact_weights(rows) == weights and same_by_trees(rows), name
+    for name, data, text in closed_files.files():
+        assert printed(data) == text, name
     assert rate_of(3) == (3221225472, -30)
     for n, count in worked.BOUND_COUNTS:
         assert bound_count(n) == count
     lines = printed(write(worked.all_ones())).splitlines()
     assert lines[0] == "states 64 bound 182784" and len(lines) == 65
-    return f"{len(worked.PRINTED)} printed cases, exact weights of {len(worked.EXACT_WEIGHTS)}, rate 3, K, case 10"
+    return (f"{len(worked.PRINTED)} printed cases, exact weights of {len(worked.EXACT_WEIGHTS)}, rate 3, K, case 10, "
+            f"{len(closed_files.CHAINS)} fixed files of R-3")
+
+
+def same_by_trees(rows):
+    """Both exact methods agree on the closed set taken alone, and nothing speaks against the weights of the whole chain."""
+    (states,) = closed_components(rows)
+    alone = taken_alone(rows, states)
+    return weights_by_trees(alone) == weights_by_minors(alone) and exact_problem(rows, exact_weights(rows)) is None
 
 
 def is_largest_not_above(x, exact):
@@ -72,15 +86,39 @@ def no_number():
     return "an operation without a number stops the model"
 
 
-def exact_solvers(rng, many=150):
+def exact_solvers(rng, many=300):
     done = 0
     while done < many:
         rows = sound(rng)
-        if len(rows) <= 5 and first_unreached(rows) is None:
-            weights = weights_by_trees(rows)
-            assert weights == weights_by_minors(rows) and balances(rows, weights), rows
+        if len(rows) <= 5 and len(closed_components(rows)) == 1:
+            assert same_by_trees(rows), rows
             done += 1
-    return f"{many} chains of up to 5 states by both exact methods"
+    return f"{many} chains of up to 5 states by both exact methods, and the balance of the whole chain"
+
+
+def by_definition(n, sets):
+    """Request R-3 word for word, over all sets of states: non-empty, each reaches all the others of the set and nothing outside it."""
+    chosen = (states for size in range(1, n + 1) for states in combinations(range(n), size))
+    return sorted(list(states) for states in chosen if all((j in sets[i]) == (j in states) for i in states for j in range(n)))
+
+
+def closed_by_all_means(rng, many=2000, most=12):
+    """The closed sets from what is reached, as components, and by their number in the balance; up to 7 states over all sets of states."""
+    numbers, searched = set(), 0
+    for _ in range(many):
+        rows = sound(rng)
+        n = len(rows)
+        sets = reached(n, *rows_of(n, {(i, j): rate for i, row in enumerate(rows) for j, rate in row}))
+        closed = closed_sets(sets)
+        assert closed == closed_components(rows), rows
+        if n <= most:
+            assert len(balanced_lists(rows)) == len(closed), rows
+        if n <= 7:
+            assert closed == by_definition(n, sets), rows
+            searched += 1
+        numbers.add(len(closed))
+    assert {1, 2, 3} <= numbers
+    return f"the closed sets of {many} chains by two ways, up to {most} states by their balance, of {searched} by the definition"
 
 
 def factors():
@@ -116,17 +154,38 @@ def examples():
     return f"{many} example texts packed and unpacked"
 
 
+def has_states_outside(data):
+    """Whether these bytes are a chain with one closed set and states outside it."""
+    try:
+        rows = read(data)
+    except Refused:
+        return False
+    closed = closed_components(rows)
+    return len(closed) == 1 and len(closed[0]) < len(rows)
+
+
+def power_on_files(seed=1, most=2000):
+    """Of the files of a run at least a third have states outside their closed set."""
+    many = sum(has_states_outside(stored(seed, i)) for i in range(most))
+    assert 3 * many >= most, f"only {many} of {most} files have one closed set and states outside it"
+    return f"{many} of the first {most} files of seed {seed} have one closed set and states outside it, a third at least"
+
+
 def digits(seed=1, most=200):
     """The digits that tools/chain shows for a computed share are the exact share's own, correctly rounded."""
     states = 0
     for data in (stored(seed, i) for i in range(most)):
         lines = printed(data).splitlines()
         if lines[0].startswith("states"):
-            exact, count = weights_by_minors(read(data)), 2 * int(lines[0].split()[3]) + len(lines) - 1
+            exact = exact_weights(read(data))
+            count = 2 * int(lines[0].split()[3]) + sum(weight > 0 for weight in exact)
             for line, weight in zip(lines[1:], exact):
-                whole, power = guaranteed(value(tuple(map(int, line.split()[3:]))), count)
-                assert rounded(Fraction(weight, sum(exact)), len(str(whole))) == (whole, power), line
-                states += 1
+                share = value(tuple(map(int, line.split()[3:])))
+                assert (share > 0) == (weight > 0), line
+                if share:
+                    whole, power = guaranteed(share, count)
+                    assert rounded(Fraction(weight, sum(exact)), len(str(whole))) == (whole, power), line
+                    states += 1
     return f"the digits that tools/chain shows for {states} shares"
 
 
@@ -139,11 +198,6 @@ SLIPS = (
     ("over(total_of(times(weights[j], a[j][k]) for j in range(k + 1, n)), pivots[k])",
      "total_of(over(times(weights[j], a[j][k]), pivots[k]) for j in range(k + 1, n))", "each term divided on the way back"),
     ("over(w, total) for w in weights", "w for w in weights", "shares not divided by the total"),
-    ("if rates[p] > 0]", "]", "a stored zero rate taken as a move"),
-    ("for i in range(n) for j in range(n) if j not in sets[i]), None)",
-     "for i in range(1) for j in range(n) if j not in sets[i]), None)", "moves followed from state 0 only"),
-    ("for i in range(n) for j in range(n) if j not in sets[i]), None)",
-     "for i in range(n) for j in reversed(range(n)) if j not in sets[i]), None)", "6 names the highest"),
     ("for j in columns:", "for j in reversed(columns):", "9 names the highest bit"),
     ("if j == i or j >= n:", "if j == i:", "bits at n and above let through"),
     ("if at < len(data):", "if False:", "bytes left over let through"),
@@ -157,7 +211,31 @@ SLIPS = (
 )
 
 
-# Slips of request R-1, as edits of its model's text.
+# Slips of request R-3, as edits of the models' text.
+CLOSED_SLIPS = (
+    ("if rates[p] > 0]", "]", "a stored zero rate taken as a move"),
+    ("all(sets[j] == own for j in own)", "all(sets[j] <= own for j in own)", "moves followed one way only: no way back asked"),
+    ("all(sets[j] == own for j in own)", "all(min(sets[j]) == min(own) for j in own)", "the way back asked of the lowest state alone"),
+    ("closed_sets(sets)\n    if", "closed_sets([{i for i in range(n) if j in sets[i]} for j in range(n)])\n    if", "moves followed backwards"),
+    ("Refused(6, closed[0][0], closed[1][0])", "Refused(6, *sorted(i for states in closed for i in states)[:2])",
+     "the lowest state of a set not asked for: 6 names one set twice"),
+    ("Refused(6, closed[0][0], closed[1][0])", "Refused(6, closed[1][0], closed[0][0])", "the places of 6 exchanged"),
+    ("Refused(6, closed[0][0], closed[1][0])", "Refused(6, closed[0][0], closed[-1][0])", "6 names the lowest and the highest set"),
+    ("Refused(6, closed[0][0], closed[1][0])", "Refused(6, closed[0][-1], closed[1][-1])", "6 names the highest states of the sets"),
+    ("if len(closed) > 1:", "if False:", "the lowest of several sets solved"),
+    ("if len(closed) > 1:\n        raise Refused(6, closed[0][0], closed[1][0])",
+     "if len(closed[0]) < n:\n        raise Refused(6, closed[0][0], closed[-1][0])", "a chain with states outside turned away"),
+    ("return bound_count(len(states))", "return bound_count(n)", "K of all n states"),
+    ("given.get(i, ZERO)", "given.get(i, ONE)", "states outside keep a number"),
+    ("return closed[0]\n", "return closed[0][::-1]\n", "the set solved in falling order"),
+    ("len(rows), closed_set(rows)", "len(rows), [*closed_set(rows)[:-1], len(rows) - 1]", "the chain's last state taken for the set's"),
+    ("alone(rows, states))", "alone(rows, range(len(states))))", "the first r states solved in place of the set"),
+    ("spread(n, states, weights)", "spread(n, range(n), weights)", "the set's weights put at the first places"),
+    ("spread(n, states, shares)", "spread(n, states[::-1], shares)", "the set's shares put falling"),
+)
+
+
+# Slips of request R-1, as edits of its model's text; the last two are of request R-3.
 GROUP_SLIPS = (
     ("total_of(shares[state] for state in states_of(table, group))",
      "total_of(shares[state] for state in reversed(states_of(table, group)))", "a group summed falling"),
@@ -166,6 +244,8 @@ GROUP_SLIPS = (
     ("group > 15", "group > 16", "group 16 let through"),
     ("range(0, len(table), 3)", "range(0, len(table) - 2, 3)", "a row cut short let through"),
     ("Refused(13, min(bad))", "Refused(13, max(bad))", "13 names the last bad row"),
+    ("[(0, 0)] * (n * n)", "[(0, 0)] * sum(w != ZERO for w in weights) ** 2", "the work places of the set alone cleared"),
+    ("zip(call.lent, places_needed(n))", "zip(call.lent, places_needed(len(closed_set(chain_rows(call)))))", "room for the set alone suffices"),
 )
 PRINTING = ("tests/scaled_model", "tests/chain_model", "python/stored_chain", "tests/elimination_model")
 
@@ -188,26 +268,29 @@ def answer(model, data):
 
 
 def all_told_apart(slips, parts, model, inputs):
+    right = [model(data) for data in inputs]
     for old, new, what in slips:
         edited = models_with(old, new, parts, model.__name__)
-        assert any(answer(edited, data) != model(data) for data in inputs), f"not told apart: {what}"
+        assert any(answer(edited, data) != text for data, text in zip(inputs, right)), f"not told apart: {what}"
 
 
 def slips(seed=1, most=400):
-    all_told_apart(SLIPS, PRINTING, printed, [stored(seed, i) for i in range(most)])
-    return f"{len(SLIPS)} slips, each told apart by the first {most} files of seed {seed}"
+    files = [stored(seed, i) for i in range(most)]
+    all_told_apart(SLIPS + CLOSED_SLIPS, PRINTING, printed, files)
+    all_told_apart(CLOSED_SLIPS, PRINTING, printed, [data for _, data, _ in closed_files.files()])
+    return f"{len(SLIPS) + len(CLOSED_SLIPS)} slips, each told apart by the first {most} files of seed {seed}, those of R-3 by its fixed files too"
 
 
 def group_cases():
     """The shares of groups worked on paper, and the verdicts of the edges."""
-    for name, rows, table, expected in worked.GROUP_SHARES:
+    for name, rows, count, table, expected in worked.GROUP_SHARES:
         lent = [need + 1 for need in places_needed(len(rows))]
         verdict, slices = outcome(call_of(rows, table, lent))
-        assert verdict == f"accepted {bound_count(len(rows))}", name
+        assert verdict == f"accepted {count}", name
         assert list(zip(*slices[6:])) == [*(expected.get(group, ZERO) for group in range(GROUPS)), (HELD, HELD)], name
     for index, (verdict, _) in enumerate(EDGES):
         assert told(call_bytes(1, index)).split("\n")[0] == verdict, f"edge {index}, {verdict}"
-    return f"{len(worked.GROUP_SHARES)} group table worked on paper, the verdicts of {len(EDGES)} edges"
+    return f"{len(worked.GROUP_SHARES)} group tables worked on paper, the verdicts of {len(EDGES)} edges"
 
 
 def group_slips(seed=1, most=400):
@@ -221,8 +304,8 @@ def group_slips(seed=1, most=400):
 
 def main():
     rng = random.Random(1)
-    parts = (worked_cases, lambda: scaled_numbers(rng), no_number, lambda: exact_solvers(rng), factors, lambda: round_trip(rng),
-             examples, digits, slips, group_cases, group_slips)
+    parts = (worked_cases, lambda: scaled_numbers(rng), no_number, lambda: exact_solvers(rng), lambda: closed_by_all_means(rng), factors,
+             lambda: round_trip(rng), examples, power_on_files, digits, slips, group_cases, group_slips)
     for part in parts:
         try:
             print("ok:", part())

@@ -1,18 +1,19 @@
 """The input and the expected output of crates/shares and crates/shares_run, from the models.
 
 shares reads the longest file and one byte more: that it is refused by 10 shows that the program reads one byte beyond the longest
-file. shares_run reads the chains worked on paper that have a file, a file for
-each refusal that a file can cause, and the examples, each after its length in two bytes, low byte first.
+file. shares_run reads the chains worked on paper that have a file, a file for each refusal that a file can cause, the fixed files of
+request R-3 and the examples, each after its length in two bytes, low byte first.
 """
 from pathlib import Path
 
+import closed_files
 from elimination_model import printed
 from stored_chain import write
 from worked import PRINTED, all_ones
 
 ROOT = Path(__file__).resolve().parent.parent
-# more of each refusal: 1 (order byte above 64), 6 (no state reaches another), 8 (rates cut short), 9 (a bit at n), 10 (after case 2)
-REFUSED = ("ff", "02 00 00", "02 02 03000000 01 010000", "02 06 03000000 05000000 00", "02 02 03000000 01 01000000 07")
+# more of each refusal but 6: 1 (order byte above 64), 8 (rates cut short), 9 (a bit at n), 10 (after case 2)
+REFUSED = ("ff", "02 02 03000000 01 010000", "02 06 03000000 05000000 00", "02 02 03000000 01 01000000 07")
 
 
 def files():
@@ -23,6 +24,9 @@ def files():
     yield write(all_ones())
     for text in REFUSED:
         yield bytes.fromhex(text)
+    for name, data, expected in closed_files.files():
+        assert printed(data) == expected, name
+        yield data
     for path in sorted(ROOT.joinpath("examples").glob("*.chain")):
         yield path.read_bytes()
 

@@ -10,6 +10,19 @@
 //! assert_eq!(solution.shares[1].to_f64(), 0.75);
 //! # Ok::<(), stall::Refusal>(())
 //! ```
+//!
+//! A non-empty set of states is closed if each of them reaches all the others of the set, over rates above 0, and nothing outside
+//! it. A chain has an answer if it has exactly one closed set. States outside, such as those met only after power-on, are left for
+//! good: their weights and shares are Zero.
+//!
+//! ```
+//! // 0 to 1, 1 to 0 and 2 to 0, all rate 1: state 2 is left once and never met again.
+//! let chain = stall::read(&[3, 2, 1, 0, 0, 0, 1, 1, 0, 0, 0, 1, 1, 0, 0, 0])?;
+//! let shares = stall::solve(&chain)?.shares;
+//! assert_eq!(shares[0].to_f64(), 0.5);
+//! assert!(shares[2].is_zero());
+//! # Ok::<(), stall::Refusal>(())
+//! ```
 mod refusal;
 mod scaled;
 pub mod sys;
@@ -42,12 +55,12 @@ pub struct Chain {
 /// What solving gives for an accepted chain.
 #[derive(Clone, Debug, PartialEq, Eq, Hash)]
 pub struct Solution {
-    /// The bound count K(n): with F = 2^31 / (2^31 - 1), each weight lies within K(n) factors F of the exact one, each share
-    /// within 2 K(n) + n.
+    /// The bound count K(r) of the r states of the closed set: with F = 2^31 / (2^31 - 1), each weight lies within K(r) factors F
+    /// of the exact one, each share within 2 K(r) + r.
     pub bound: usize,
-    /// The weight of each state; the last state's is 1.
+    /// The weight of each state; that of the closed set's last state is 1, that of a state outside Zero.
     pub weights: Vec<Scaled>,
-    /// The share of each state.
+    /// The share of each state; that of a state outside the closed set is Zero.
     pub shares: Vec<Scaled>,
 }
 
@@ -56,8 +69,8 @@ pub struct Solution {
 pub struct GroupSolution {
     /// What `solve` gives.
     pub solution: Solution,
-    /// The share of each group, the sum of the shares of its states; Zero for a group without states. With F = 2^31 / (2^31 - 1),
-    /// each lies within 2 K(n) + 2 n factors F of the exact one.
+    /// The share of each group, the sum of the shares of its states; Zero for a group without states in the closed set. With
+    /// F = 2^31 / (2^31 - 1), each lies within 2 K(r) + 2 n factors F of the exact one, n being the order of the chain.
     pub groups: [Scaled; GROUPS],
 }
 
@@ -242,7 +255,7 @@ pub fn read(bytes: &[u8]) -> Result<Chain, Refusal> {
     })
 }
 
-/// Stores a chain, or gives the first refusal of 1 to 4. A chain that cannot be solved for refusal 6 is stored too.
+/// Stores a chain, or gives the first refusal of 1 to 4. A chain with several closed sets, which solving refuses by 6, is stored too.
 pub fn write(chain: &Chain) -> Result<Vec<u8>, Refusal> {
     let mut out = vec![0u8; MAX_BYTES];
     let mut answer = [0usize; 3];

@@ -15,8 +15,8 @@ pub enum ChainReason {
     Columns { row: usize, place: usize },
     /// 5: a lent buffer is shorter than needed. The calls of this crate lend enough and never meet it.
     Room,
-    /// 6: some state does not reach another.
-    Unreached { from: usize, to: usize },
+    /// 6: the chain has two or more closed sets; these are the two lowest of the sets' lowest states.
+    ClosedSets { first: usize, second: usize },
     /// 11: a state is in no row of the group table; this is the lowest.
     InNoRow { state: usize },
     /// 12: a state is in two rows of the group table, or more; this is the lowest.
@@ -58,7 +58,7 @@ impl Refusal {
                 ChainReason::Starts => 3,
                 ChainReason::Columns { .. } => 4,
                 ChainReason::Room => 5,
-                ChainReason::Unreached { .. } => 6,
+                ChainReason::ClosedSets { .. } => 6,
                 ChainReason::InNoRow { .. } => 11,
                 ChainReason::InTwoRows { .. } => 12,
                 ChainReason::TableRow { .. } => 13,
@@ -77,7 +77,7 @@ impl Refusal {
     pub fn places(self) -> (usize, usize) {
         match self {
             Refusal::Chain(ChainReason::Columns { row, place }) => (row, place),
-            Refusal::Chain(ChainReason::Unreached { from, to }) => (from, to),
+            Refusal::Chain(ChainReason::ClosedSets { first, second }) => (first, second),
             Refusal::Chain(ChainReason::InNoRow { state } | ChainReason::InTwoRows { state }) => {
                 (state, 0)
             }
@@ -99,10 +99,7 @@ impl Refusal {
                 place: second,
             }),
             (0, 5) => Refusal::Chain(ChainReason::Room),
-            (0, 6) => Refusal::Chain(ChainReason::Unreached {
-                from: first,
-                to: second,
-            }),
+            (0, 6) => Refusal::Chain(ChainReason::ClosedSets { first, second }),
             (0, 11) => Refusal::Chain(ChainReason::InNoRow { state: first }),
             (0, 12) => Refusal::Chain(ChainReason::InTwoRows { state: first }),
             (0, 13) => Refusal::Chain(ChainReason::TableRow { row: first }),

@@ -1,7 +1,8 @@
 //! Scaled numbers, the form of weights and shares.
 
-/// `m` × 2^`e`: `m` is from 2^31 to 2^32 - 1 and `e` from -16384 to 16383. The share of a group may also be Zero, both 0. This
-/// pair is the result itself; the conversions below are a convenience, rounded, and no contract speaks of them.
+/// `m` × 2^`e`: `m` is from 2^31 to 2^32 - 1 and `e` from -16384 to 16383; or Zero, both 0. Weights and shares are Zero outside the
+/// closed set and nowhere else. This pair is the result itself; the conversions below are a convenience, rounded, and no contract
+/// speaks of them.
 #[derive(Clone, Copy, Debug, PartialEq, Eq, Hash)]
 pub struct Scaled {
     pub m: u32,
@@ -9,6 +10,12 @@ pub struct Scaled {
 }
 
 impl Scaled {
+    /// Whether this is Zero: of a weight or a share, whether its state is outside the closed set and left for good. A share too small
+    /// for an `f64` is not.
+    pub fn is_zero(self) -> bool {
+        self.m == 0
+    }
+
     /// Convenience: the value as an `f64`. It is exact in the range of normal `f64` numbers. Below about 1e-308 it loses digits
     /// and then is 0; above about 1.8e308 it is infinite. `log10` has neither limit.
     pub fn to_f64(self) -> f64 {

@@ -1,25 +1,10 @@
 //! The document's cases, refusals of every kind that a chain or bytes can meet here, round trips and the conversions.
+mod common;
+
+use common::{chain, pairs, ring};
 use stall::{read, solve, solve_groups, write, BytesReason, Chain, ChainReason, Refusal, Scaled};
 
 const CASE_2: [u8; 11] = [2, 2, 3, 0, 0, 0, 1, 1, 0, 0, 0];
-
-/// The chain of these moves (from, to, rate), sorted by from and to.
-fn chain(order: usize, moves: &[(u32, u32, u32)]) -> Chain {
-    let mut starts = vec![0];
-    for i in 0..order as u32 {
-        starts.push(moves.iter().filter(|m| m.0 <= i).count() as u32);
-    }
-    Chain {
-        order,
-        starts,
-        columns: moves.iter().map(|m| m.1).collect(),
-        rates: moves.iter().map(|m| m.2).collect(),
-    }
-}
-
-fn pairs(numbers: &[Scaled]) -> Vec<(u32, i32)> {
-    numbers.iter().map(|x| (x.m, x.e)).collect()
-}
 
 fn refused(input: &Chain) -> ChainReason {
     match solve(input) {
@@ -33,11 +18,6 @@ fn refused_table(input: &Chain, table: &[[u32; 3]]) -> ChainReason {
         Err(Refusal::Chain(reason)) => reason,
         other => panic!("{other:?}"),
     }
-}
-
-/// The ring of case 3.
-fn ring() -> Chain {
-    chain(3, &[(0, 1, 2), (1, 2, 4), (2, 0, 8)])
 }
 
 fn refused_bytes(bytes: &[u8]) -> BytesReason {
@@ -167,14 +147,17 @@ fn tables_refused() {
     );
     assert_eq!(table(&[]), ChainReason::InNoRow { state: 0 });
     // The chain's rules come before the table, the table before 6.
-    let stuck = chain(2, &[(0, 1, 0), (1, 0, 5)]);
+    let apart = chain(2, &[(0, 1, 0)]);
     assert_eq!(
-        refused_table(&stuck, &[[0, 0, 0]]),
+        refused_table(&apart, &[[0, 0, 0]]),
         ChainReason::InNoRow { state: 1 }
     );
     assert_eq!(
-        refused_table(&stuck, &[[0, 1, 0]]),
-        ChainReason::Unreached { from: 0, to: 1 }
+        refused_table(&apart, &[[0, 1, 0]]),
+        ChainReason::ClosedSets {
+            first: 0,
+            second: 1
+        }
     );
     for order in [0, 65, usize::MAX] {
         assert_eq!(
@@ -234,17 +217,16 @@ fn chains_refused() {
         }),
         ChainReason::Columns { row: 1, place: 1 }
     );
+    let apart = chain(2, &[]);
     assert_eq!(
-        refused(&chain(2, &[(0, 1, 0), (1, 0, 5)])),
-        ChainReason::Unreached { from: 0, to: 1 }
-    );
-    assert_eq!(
-        refused(&chain(3, &[(0, 1, 1), (1, 0, 1), (2, 0, 1)])),
-        ChainReason::Unreached { from: 0, to: 2 }
+        refused(&apart),
+        ChainReason::ClosedSets {
+            first: 0,
+            second: 1
+        }
     );
     // Stored all the same, and read back.
-    let stuck = chain(2, &[(0, 1, 0), (1, 0, 5)]);
-    assert_eq!(read(&write(&stuck).unwrap()).unwrap(), stuck);
+    assert_eq!(read(&write(&apart).unwrap()).unwrap(), apart);
     assert_eq!(
         write(&Chain { order: 65, ..two }),
         Err(Refusal::Chain(ChainReason::Order))
@@ -267,9 +249,9 @@ fn bytes_refused() {
 
 #[test]
 fn numbers_and_places() {
-    let unreached = solve(&chain(2, &[(0, 1, 1)])).unwrap_err();
-    assert_eq!((unreached.number(), unreached.places()), (6, (1, 0)));
-    assert_eq!(unreached.to_string(), "refused 6 1 0");
+    let traps = solve(&chain(4, &[(0, 1, 1), (1, 0, 1), (2, 3, 1)])).unwrap_err();
+    assert_eq!((traps.number(), traps.places()), (6, (0, 3)));
+    assert_eq!(traps.to_string(), "refused 6 0 3");
     let bit = read(&[2, 2, 3, 0, 0, 0, 4]).unwrap_err();
     assert_eq!((bit.number(), bit.places()), (9, (1, 2)));
     assert_eq!(read(&CASE_2[..3]).unwrap_err().to_string(), "refused 8 0 0");
@@ -337,6 +319,12 @@ fn conversions() {
     );
     let zero = Scaled { m: 0, e: 0 };
     assert_eq!((zero.to_f64(), zero.log10()), (0.0, f64::NEG_INFINITY));
+    assert!(zero.is_zero());
+    let rare = Scaled {
+        m: 1 << 31,
+        e: -16384,
+    };
+    assert!(!rare.is_zero() && rare.to_f64() == 0.0);
 }
 
 #[test]

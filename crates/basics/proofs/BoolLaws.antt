@@ -1,8 +1,8 @@
 -- Tests joined by "and" and "or", from the values of their parts and back; a test at all numbers below n; a value told by a test. Assumes nothing.
 use mathlib.Core.Bool.{Bool, true, false, cond, not, _&&_, _||_, false≢true, and-eq-true-iff}
 use mathlib.Core.Logic.{_⊎_, inl, inr}
-use mathlib.Core.Path.{_≡_, refl, sym, _∙_}
-use Prim.Native.Nat.{ℕ, zero, suc, _<_}
+use mathlib.Core.Path.{_≡_, refl, sym, ap₂, _∙_}
+use Prim.Native.Nat.{ℕ, zero, suc, _+_, _<_}
 use native.Mathlib.Omega.{arith}
 use native.Mathlib.Decide.{ℕ-discrete}
 use borrow.Author.Tests.{not-true, not-false}
@@ -82,3 +82,26 @@ pub all-of : (n : ℕ) (p : ℕ → Bool) → ((v : ℕ) → v < n → p v ≡ t
 unfolding all
 all-of zero p h = refl
 all-of (suc n) p h = and-eq-true-iff (p n) (all n p) .1 (h n (omega arith), all-of n p (λ v l. h v (omega arith)))
+
+pub all-cong : (n : ℕ) {p q : ℕ → Bool} → ((v : ℕ) → v < n → p v ≡ q v) → all n p ≡ all n q
+unfolding all
+all-cong zero e = refl
+all-cong (suc n) e = ap₂ _&&_ (e n (omega arith)) (all-cong n (λ v l. e v (omega arith)))
+
+pub all-fails : (n : ℕ) (p : ℕ → Bool) (v : ℕ) → v < n → p v ≡ false → all n p ≡ false
+all-fails n p v l e = not-so (all n p) (λ t. false≢true (sym e ∙ all-at n p t v l))
+
+-- for a loop: it holds below j, and at j
+pub all-more : (j : ℕ) (p : ℕ → Bool) → all j p ≡ true → p j ≡ true → all (j + 1) p ≡ true
+all-more j p h e = all-of (j + 1) p (λ v l. elim (ℕ-discrete v j) [ yes q ↦ rw q e | no d ↦ all-at j p h v (omega arith) ])
+
+-- it holds everywhere or fails somewhere
+pub all-or-not : (n : ℕ) (p : ℕ → Bool) → (all n p ≡ true) ⊎ ((v : ℕ) × (v < n) × (p v ≡ false))
+unfolding all
+all-or-not zero p = inl refl
+all-or-not (suc n) p = go (p n) refl (all-or-not n p)
+  where
+    go : (b : Bool) → p n ≡ b → (all n p ≡ true) ⊎ ((v : ℕ) × (v < n) × (p v ≡ false)) → (all (suc n) p ≡ true) ⊎ ((v : ℕ) × (v < suc n) × (p v ≡ false))
+    go true e (inl h) = inl (rw (e, h))
+    go true e (inr h) = inr (h .0, omega (arith, h .1), h .2)
+    go false e h = inr (n, omega arith, e)

@@ -5,13 +5,12 @@ use mathlib.Core.Logic.{_≢_, ⊎-elim}
 use mathlib.Core.Path.{_≡_, refl, sym, ap, _∙_}
 use Prim.Native.Nat.{ℕ, _+_, _*_, _≤_, _<_}
 use native.Mathlib.Decide.{decLt}
-use native.Mathlib.Nat.{eq-or-lt-of-le, le-refl}
+use native.Mathlib.Nat.{eq-or-lt-of-le}
 use native.Mathlib.Omega.{arith}
 use borrow.Author.Tests.{eqb-true, eqb-false}
 use lib.Dec.{eqb}
 use lib.IntN.{pos}
-use lib.ListN.{length, getD, set, replicate, length-set}
-use lib.Seq.{getD-set-same, getD-set-other}
+use lib.ListN.{length, getD, replicate}
 use Rattle.scaled.specs.Scaled.{zeroNumber, rateOf}
 use Rattle.scaled.proofs.Laws.{rate-zero}
 use Rattle.basics.specs.First.{first}
@@ -24,7 +23,8 @@ use Rattle.chain.proofs.RateLaws.{rate-none, column-once, entry-rate}
 use Rattle.kernel.specs.Slices.{Slices, pair, numberAt, entryAt}
 use Rattle.kernel.specs.Kernel.{Square, Put}
 use Rattle.kernel.proofs.Entries.{kept-none, kept-on, still-square}
-use Rattle.elimination.specs.Inner.{matrixOf, Listed, RowLoaded, Loadable, Loaded, EntryLoaded}
+use Rattle.members.proofs.Listing.{listed-count, listed-below, listed-place, listed-state}
+use Rattle.elimination.specs.Inner.{matrixOf, RowLoaded, Loadable, Loaded, EntryLoaded}
 use Rattle.basics.proofs.FillLaws.{getD-replicate, length-replicate}
 
 pub entry-none : {r a b x : ℕ} (w : Slices) → r ≤ b → EntryLoaded r a b x w w
@@ -49,9 +49,9 @@ pub record RowIn (c : Rows) (states places : List ℕ) (a : ℕ) : Type 0 where
 pub row-in : {c : Rows} {states places : List ℕ} {r a : ℕ} {w : Slices} → Loadable c states places r w → a < r → RowIn c states places a
 row-in {states = states} {a = a} l h =
     let s = l .sound in
-    let i = l .listed .below a h in
+    let i = listed-below (l .listed) a h in
     record {
-      listed = omega (arith, l .listed .states-long, l .listed .count, s .order .high);
+      listed = omega (arith, l .listed .list-long, listed-count (l .listed), s .order .high);
       state = i;
       order = s .order .high;
       starts = s .starts-rule .count;
@@ -67,15 +67,15 @@ row-none w = record { kept = kept-none w; rows = λ i j hi hj d. refl; put = λ 
 module _ {c : Rows} {states places : List ℕ} {r a : ℕ} {w₀ : Slices} (s : Loadable c states places r w₀) (row : a < r)
     {p : ℕ} (low : begins c (getD states a 0) ≤ p) (high : p < ends c (getD states a 0)) where
   in-chain : columnAt c p < c .order
-  in-chain = s .sound .columns-rule .entry _ p (s .listed .below a row) low high .below
+  in-chain = s .sound .columns-rule .entry _ p (listed-below (s .listed) a row) low high .below
 
   -- an earlier entry of the row has another column
   earlier : (q : ℕ) → begins c (getD states a 0) ≤ q → q < p → columnAt c q ≢ columnAt c p
-  earlier q l g = column-once (s .sound) _ (s .listed .below a row) q p l (omega arith) low high (λ z. omega arith)
+  earlier q l g = column-once (s .sound) _ (listed-below (s .listed) a row) q p l (omega arith) low high (λ z. omega arith)
 
   -- the place of a listed state is its own
   own-place : (b : ℕ) → b < r → columnAt c p ≡ getD states b 0 → getD places (columnAt c p) 0 ≡ b
-  own-place b hb q = rw q (s .listed .place b hb)
+  own-place b hb q = rw q (listed-place (s .listed) b hb)
 
   module _ {w w₁ w₂ : Slices} (h : RowLoaded c states r a p w w₁)
       (t : EntryLoaded r a (getD places (columnAt c p) 0) (getD (c .rates) p 0) w₁ w₂) where
@@ -84,7 +84,7 @@ module _ {c : Rows} {states places : List ℕ} {r a : ℕ} {w₀ : Slices} (s : 
     put-other b hb d = go (decLt (getD places (columnAt c p) 0) r)
       where
         go : Dec (getD places (columnAt c p) 0 < r) → entryAt r w₂ a b ≡ entryAt r w₁ a b
-        go (yes l) = t .listed l .columns a b row hb (λ z. d (sym (rw (← z) at (s .listed .state (columnAt c p) in-chain l))))
+        go (yes l) = t .listed l .columns a b row hb (λ z. d (sym (rw (← z) at (listed-state (s .listed) (s .sound .order .high) (columnAt c p) in-chain l))))
         go (no l) = t .other (omega arith) a b
 
     put-own : (b : ℕ) → b < r → columnAt c p ≡ getD states b 0 → entryAt r w₂ a b ≡ rateOf (getD (c .rates) p 0)
@@ -110,32 +110,6 @@ module _ {c : Rows} {states places : List ℕ} {r a : ℕ} {w₀ : Slices} (s : 
             go : Dec (getD places (columnAt c p) 0 < r) → entryAt r w₂ x y ≡ entryAt r w₁ x y
             go (yes l) = t .listed l .rows x y hx hy d
             go (no l) = t .other (omega arith) x y
-
--- ---- the list of all states
-
--- the numbers below i stand at their own places
-pub record Own (i : ℕ) (l : List ℕ) : Type 0 where
-  pub long : length l ≡ 64
-  pub at : (a : ℕ) → a < i → getD l a 0 ≡ a
-
-pub own-go : {i : ℕ} {l : List ℕ} → i < 64 → Own i l → Own (i + 1) (set l i i)
-own-go {i} {l} h o = record {
-  long = length-set l i i ∙ o .long;
-  at = λ a g. ⊎-elim
-      (λ (z : a ≡ i). rw z (getD-set-same l i i 0 (omega (arith, o .long))))
-      (λ z. getD-set-other l i a i 0 (λ w. omega arith) ∙ o .at a z)
-      (eq-or-lt-of-le (omega arith));
-}
-
-pub all-listed : {n : ℕ} {states places : List ℕ} → Own n states → Own n places → Listed n n states places
-all-listed {n} {states} {places} s p = record {
-  count = le-refl n;
-  below = λ a l. rw (s .at a l) l;
-  place = λ a l. rw (s .at a l) (p .at a l);
-  state = λ c l g. rw (p .at c l) (s .at c l);
-  states-long = s .long;
-  places-long = p .long;
-}
 
 -- ---- from the rows to the matrix
 
@@ -176,12 +150,12 @@ zeros-none {r = r} h p = record {
   zeros = λ a b l ha hb. rw (p, getD-replicate {A = ℕ} 0 (r * r) (a * r + b), getD-replicate (pos 0) (r * r) (a * r + b));
 }
 
-pub loaded-go : {c : Rows} {states places : List ℕ} {k r : ℕ} {w w′ : Slices} → Sound c → Listed (c .order) r states places → k < r
+pub loaded-go : {c : Rows} {states : List ℕ} {k r : ℕ} {w w′ : Slices} → Sound c → ((a : ℕ) → a < r → getD states a 0 < c .order) → k < r
     → LoadedTo c states k r w → RowLoaded c states r k (ends c (getD states k 0)) w w′ → LoadedTo c states (k + 1) r w′
 loaded-go {k = k} s l hk h t = record {
   square = still-square (h .square) (t .kept);
   entry = λ a b g ha hb. ⊎-elim
-      (λ (z : a ≡ k). rw z (row-holds s (l .below k hk) t (λ b hb. h .zeros k b (omega arith) hk hb) b hb))
+      (λ (z : a ≡ k). rw z (row-holds s (l k hk) t (λ b hb. h .zeros k b (omega arith) hk hb) b hb))
       (λ z. t .rows a b ha hb (λ w. omega arith) ∙ h .entry a b z ha hb)
       (eq-or-lt-of-le (omega arith));
   zeros = λ a b g ha hb. t .rows a b ha hb (λ w. omega arith) ∙ h .zeros a b (omega arith) ha hb;

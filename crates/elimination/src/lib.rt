@@ -1,45 +1,20 @@
-// The elimination of a chain on lent slices cut to the needed places: its rates loaded, the weights, the work places cleared, the shares
-// (internal).
+// The elimination of a set of a chain's states on lent slices: the rates between them loaded, the weights, the shares, each result given to its
+// state, and the work places cleared (internal).
 ghost use mathlib.Core.Path.{_≡_};
-ghost use Prim.Native.Nat.{ℕ, _+_, _-_, _<_, _≤_};
+ghost use Prim.Native.Nat.{_+_, _-_, _<_, _≤_};
 ghost use lib.ListN.{length, getD};
 ghost use Rattle.markov.specs.Elimination.{weights};
 ghost use Rattle.chain.specs.Rows.{inRows};
 ghost use Rattle.kernel.specs.Numbers.{ops};
 ghost use Rattle.kernel.specs.Slices.{slices};
 ghost use Rattle.kernel.specs.Kernel.{Square, Sized, Holds};
-ghost use Rattle.elimination.specs.Inner.{matrixOf, Listed, RowLoaded, Loadable, Loaded, EntryLoaded, Weighable, Ran};
+ghost use Rattle.reach.specs.Reach.{stands};
+ghost use Rattle.elimination.specs.Inner.{RowLoaded, Loadable, Loaded, EntryLoaded, setMatrix, Weighable, SetSolved, FirstCleared, Ran};
 
 fn wide(x: u32) -> usize
     ensures { λ r. ⌜ r ≡ x ⌝ }
 {
     x as usize
-}
-
-// The states that are solved, in state order, and the place of each state of the chain among them: 64 for one that is left out.
-pub struct States {
-    pub count: usize,
-    pub list: [usize; 64],
-    pub places: [usize; 64],
-}
-
-// All states of a chain of order n.
-fn all_states(n: usize) -> States
-    requires { ⌜ n ≤ 64 ⌝ }
-    ensures { λ s. ⌜ (s .count ≡ n) × Listed n n (s .list) (s .places) × ((a : ℕ) → a < n → getD (s .list) a 0 ≡ a) ⌝ }
-{
-    let mut s = States {
-        count: n,
-        list: [0; 64],
-        places: [64; 64],
-    };
-    let mut i = 0;
-    while i < n {
-        s.list[i] = i;
-        s.places[i] = i;
-        i += 1;
-    }
-    s
 }
 
 // Puts the entry at place p into row a, if its column is listed.
@@ -114,33 +89,39 @@ fn load(
     }
 }
 
-// The weights of a chain, by the elimination of all its states.
+// The weights of the r states of the set, by the elimination of the rates between them.
 fn weigh(
     n: usize,
     starts: &[u32],
     columns: &[u32],
     rates: &[u32],
+    set: u64,
+    r: usize,
     m: &mut [u32],
     e: &mut [i32],
     wm: &mut [u32],
     we: &mut [i32],
 )
-    requires { ⌜ Weighable (inRows n starts columns rates) (slices m e) (slices wm we) ⌝ }
-    ensures { λ _. ⌜ Holds n (weights ops (n - 1) (matrixOf (inRows n (starts .entry) (columns .entry) (rates .entry)))) (slices (wm .exit) (we .exit)) ⌝ }
+    requires { ⌜ Weighable (inRows n starts columns rates) (stands set) r ⌝ }
+    requires { ⌜ Square r (slices m e) ⌝ }
+    requires { ⌜ Sized r (slices wm we) ⌝ }
+    ensures { λ _. ⌜ Holds r (weights ops (r - 1) (setMatrix (inRows n (starts .entry) (columns .entry) (rates .entry)) (stands set))) (slices (wm .exit) (we .exit)) ⌝ }
 {
-    let states = all_states(n);
+    let states = members::states_of(set, n);
     let list = states.list;
     let places = states.places;
-    load(n, starts, columns, rates, &list, &places, n, m, e);
-    weighing::weigh(m, e, n, wm, we);
+    load(n, starts, columns, rates, &list, &places, r, m, e);
+    weighing::weigh(m, e, r, wm, we);
 }
 
-// Solves on slices cut to the needed places, and clears the work places.
-pub fn run(
+// The weights and the shares of the r states of the set, as a chain of its own.
+fn solve_set(
     n: usize,
     starts: &[u32],
     columns: &[u32],
     rates: &[u32],
+    set: u64,
+    r: usize,
     m: &mut [u32],
     e: &mut [i32],
     wm: &mut [u32],
@@ -148,11 +129,64 @@ pub fn run(
     sm: &mut [u32],
     se: &mut [i32],
 )
-    requires { ⌜ Weighable (inRows n starts columns rates) (slices m e) (slices wm we) ⌝ }
-    requires { ⌜ Sized n (slices sm se) ⌝ }
-    ensures { λ _. ⌜ Ran (inRows n (starts .entry) (columns .entry) (rates .entry)) (slices (m .exit) (e .exit)) (slices (wm .exit) (we .exit)) (slices (sm .exit) (se .exit)) ⌝ }
+    requires { ⌜ Weighable (inRows n starts columns rates) (stands set) r ⌝ }
+    requires { ⌜ Square r (slices m e) ⌝ }
+    requires { ⌜ Sized r (slices wm we) ⌝ }
+    requires { ⌜ Sized r (slices sm se) ⌝ }
+    ensures { λ _. ⌜ SetSolved (inRows n (starts .entry) (columns .entry) (rates .entry)) (stands set) r
+        (slices (m .exit) (e .exit)) (slices (wm .exit) (we .exit)) (slices (sm .exit) (se .exit)) ⌝ }
 {
-    weigh(n, starts, columns, rates, m, e, wm, we);
-    kernel::clear(m, e);
-    weighing::share(wm, we, n, sm, se);
+    weigh(n, starts, columns, rates, set, r, m, e, wm, we);
+    weighing::share(wm, we, r, sm, se);
+}
+
+// Zeros in the first k places: how many are cleared is said where it is called.
+fn clear_first(k: usize, m: &mut [u32], e: &mut [i32])
+    requires { ⌜ (k ≤ length (now m)) × (k ≤ length (now e)) ⌝ }
+    ensures { λ _. ⌜ FirstCleared k (slices (m .entry) (e .entry)) (slices (m .exit) (e .exit)) ⌝ }
+{
+    kernel::clear(&mut m[..k], &mut e[..k]);
+}
+
+// Solves a set of states on slices cut to the needed places of the whole chain: the set as a chain of its own in the first places, then each
+// result goes to its state. All work places are cleared.
+pub fn run(
+    n: usize,
+    starts: &[u32],
+    columns: &[u32],
+    rates: &[u32],
+    set: u64,
+    r: usize,
+    m: &mut [u32],
+    e: &mut [i32],
+    wm: &mut [u32],
+    we: &mut [i32],
+    sm: &mut [u32],
+    se: &mut [i32],
+)
+    requires { ⌜ Weighable (inRows n starts columns rates) (stands set) r ⌝ }
+    requires { ⌜ Square n (slices m e) ⌝ }
+    requires { ⌜ Sized n (slices wm we) ⌝ }
+    requires { ⌜ Sized n (slices sm se) ⌝ }
+    ensures { λ _. ⌜ Ran (inRows n (starts .entry) (columns .entry) (rates .entry)) (stands set)
+        (slices (m .exit) (e .exit)) (slices (wm .exit) (we .exit)) (slices (sm .exit) (se .exit)) ⌝ }
+{
+    let inner = r * r;
+    solve_set(
+        n,
+        starts,
+        columns,
+        rates,
+        set,
+        r,
+        &mut m[..inner],
+        &mut e[..inner],
+        &mut wm[..r],
+        &mut we[..r],
+        &mut sm[..r],
+        &mut se[..r],
+    );
+    clear_first(n * n, m, e);
+    members::spread(set, n, r, wm, we);
+    members::spread(set, n, r, sm, se);
 }

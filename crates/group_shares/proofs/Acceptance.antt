@@ -10,7 +10,6 @@ use lib.Dec.{leb}
 use lib.ListN.{length}
 use Rattle.basics.proofs.BoolLaws.{and-yes, both, not-so}
 use Rattle.refusal.specs.Table.{Verdict, accepts, refuses}
-use Rattle.markov.specs.Count.{boundCount}
 use Rattle.chain.specs.Rows.{Rows}
 use Rattle.chain.specs.Rules.{checked}
 use Rattle.chain.proofs.Reading as rules
@@ -18,13 +17,13 @@ use Rattle.reach.specs.Answer.{answered, AnswerSays}
 use Rattle.reach.specs.Answer as reach
 use Rattle.reach.proofs.AnswerLaws.{answered-says, says-answered, answer-accepted}
 use Rattle.solver.specs.Lent.{enoughIn}
-use Rattle.solver.specs.Solve.{solved}
+use Rattle.solver.specs.Solve.{countOf, solved}
 use Rattle.solver.proofs.Room.{roomy, roomy-held}
 use Rattle.group_table.specs.Rules.{tableChecked}
 use Rattle.group_table.specs.Sums.{groupPlaces}
 use Rattle.group_table.specs.Sound as table
 use Rattle.group_table.proofs.Reading as tables
-use Rattle.group_shares.specs.GroupShares.{GroupLent, enoughFor, GroupRoomy, groupsSolved, GroupsSolvable, GroupsSay, rule-broken, table-broken, no-room, unreached, solves}
+use Rattle.group_shares.specs.GroupShares.{GroupLent, enoughFor, GroupRoomy, groupsSolved, GroupsSolvable, GroupsSay, rule-broken, table-broken, no-room, two-closed, solves}
 
 -- ---- the room
 
@@ -47,7 +46,7 @@ module _ (c : Rows) (table : List ℕ) (l : GroupLent) where
       → answered c ≡ v → AnswerSays c v → GroupsSay c table l (groupsSolved c table (enoughFor (c .order) l))
   unfolding groupsSolved solved
   at-reach q t b e (reach.rule-broken h) = rw (q, t, b, e) (rule-broken h)
-  at-reach q t b e (reach.unreached s h) = rw (q, t, b, e) (unreached s (tables.accepted-sound _ _ t) (room-of _ l b) h)
+  at-reach q t b e (reach.two-closed s h) = rw (q, t, b, e) (two-closed s (tables.accepted-sound _ _ t) (room-of _ l b) h)
   at-reach q t b e (reach.has-answer s h) =
       rw (q, t, b, e) (solves (record { sound = s; table-sound = tables.accepted-sound _ _ t; room = room-of _ l b; answer = h }))
 
@@ -74,7 +73,7 @@ module _ (c : Rows) (table : List ℕ) (l : GroupLent) where
 
   -- ---- accepted if and only if no refusal describes the input; the answer is then the bound count
 
-  pub solvable-accepted : GroupsSolvable c table l → groupsSolved c table (enoughFor (c .order) l) ≡ accepts (boundCount (c .order))
+  pub solvable-accepted : GroupsSolvable c table l → groupsSolved c table (enoughFor (c .order) l) ≡ accepts (countOf c)
   unfolding groupsSolved solved
   solvable-accepted h =
       rw (rules.sound-accepted c (h .sound), tables.sound-accepted _ _ (h .table-sound), room-held _ l (h .room), answer-accepted c (h .sound) (h .answer))
@@ -87,7 +86,7 @@ module _ (c : Rows) (table : List ℕ) (l : GroupLent) where
       go v (rule-broken p) q = let z : _≡_ {A = ℕ} 0 1 = cc in absurd (omega arith)
       go v (table-broken s t) q = let z : _≡_ {A = ℕ} 0 1 = cc in absurd (omega arith)
       go v (no-room s t b) q = let z : _≡_ {A = ℕ} 0 1 = cc in absurd (omega arith)
-      go v (unreached s t b h) q = let z : _≡_ {A = ℕ} 0 1 = cc in absurd (omega arith)
+      go v (two-closed s t b h) q = let z : _≡_ {A = ℕ} 0 1 = cc in absurd (omega arith)
 
   -- ---- a verdict whose facts hold is the verdict
 
@@ -97,6 +96,6 @@ module _ (c : Rows) (table : List ℕ) (l : GroupLent) where
   says-solved (table-broken s t) = rw (rules.sound-accepted c s, ← tables.says-checked _ _ t)
   says-solved (no-room s t b) =
       rw (rules.sound-accepted c s, tables.sound-accepted _ _ t, not-so (enoughFor (c .order) l) (λ h. b (room-of _ l h)))
-  says-solved (unreached s t b h) =
-      rw (rules.sound-accepted c s, tables.sound-accepted _ _ t, room-held _ l b, ← says-answered c (reach.unreached s h))
+  says-solved (two-closed s t b h) =
+      rw (rules.sound-accepted c s, tables.sound-accepted _ _ t, room-held _ l b, ← says-answered c (reach.two-closed s h))
   says-solved (solves h) = sym (solvable-accepted h)

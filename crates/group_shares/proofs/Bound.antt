@@ -2,21 +2,29 @@
 -- bound on the groups' shares. Assumes nothing.
 use mathlib.Core.Bool.{Bool, true, false, cond}
 use mathlib.Core.List.{List}
-use mathlib.Core.Path.{_≡_, refl, _∙_}
+use mathlib.Core.Logic.{⊎-elim}
+use mathlib.Core.Path.{_≡_, refl, sym, ap, _∙_}
 use Prim.Native.Nat.{ℕ, zero, suc, _+_, _*_, _≤_, _<_}
+use native.Mathlib.Nat.{mul-pos, mul-zero, eq-zero-or-pos}
 use native.Mathlib.Omega.{arith}
 use Rattle.basics.specs.Sum.{sum}
 use Rattle.basics.specs.Near.{Factor, Near}
-use Rattle.basics.proofs.SumLaws.{sum-zero, sum-last, mul-sum}
-use Rattle.basics.proofs.TermLaws.{sum-mul}
-use Rattle.basics.proofs.NearLaws.{near-same, near-trans, near-more, near-add, near-sum, near-scale, near-eq}
+use Rattle.basics.proofs.SumLaws.{sum-zero, sum-last, sum-pos, mul-sum}
+use Rattle.basics.proofs.TermLaws.{sum-mul, sum-none}
+use Rattle.basics.proofs.NearLaws.{near-same, near-trans, near-more, near-add, near-sum, near-scale, near-zero, near-eq}
 use Rattle.markov.specs.Elimination.{Ops}
 use Rattle.markov.specs.Promises.{Promises}
-use Rattle.markov.specs.Weight.{weight}
+use Rattle.markov.specs.Closed.{Closed, size, setWeight}
+use Rattle.markov.proofs.Members.{size-le}
+use Rattle.markov.proofs.SetBalance.{spread-out, set-weight-pos}
 use Rattle.range.specs.Range.{picked}
+use Rattle.scaled.specs.declared.Scaled.{Scaled}
+use Rattle.scaled.specs.Scaled.{zeroNumber}
 use Rattle.scaled.specs.Units.{val, one, factor}
+use Rattle.scaled.proofs.Laws.{zero-of-value}
 use Rattle.chain.specs.Rows.{Rows}
 use Rattle.chain.specs.Meaning.{rateIn}
+use Rattle.reach.specs.Answer.{setOf}
 use Rattle.kernel.specs.Numbers.{Fit}
 use Rattle.solver.specs.Solve.{sharesOf, AllInside}
 use Rattle.solver.proofs.Operations.{promises}
@@ -73,17 +81,42 @@ module _ {F : Factor} {X : Type 0} {O : Ops X} {one : ℕ} {val : X → ℕ} {Fi
 
 -- ---- the groups' shares of a chain whose shares are within their bounds, and whose numbers are all in range
 
-module _ (c : Rows) (table : List ℕ) (k : ℕ) (inside : AllInside c) (scaled : (i : ℕ) → i < c .order → Fit (sharesOf c i))
-    (near : (i : ℕ) → i < c .order → Near factor (2 * k + c .order) (val (sharesOf c i) * sum (c .order) (weight (c .order) (rateIn c))) (one * weight (c .order) (rateIn c) i)) where
+module _ (c : Rows) (table : List ℕ) (k : ℕ) (o : Closed (c .order) (rateIn c) (setOf c)) (inside : AllInside c) (scaled : (i : ℕ) → i < c .order → Fit (sharesOf c i))
+    (near : (i : ℕ) → i < c .order → Near factor (2 * k + size (c .order) (setOf c)) (val (sharesOf c i) * sum (c .order) (setWeight (c .order) (rateIn c) (setOf c)))
+    (one * setWeight (c .order) (rateIn c) (setOf c) i)) where
   -- every partial sum is a scaled number
   part-fits : (g j : ℕ) → j ≤ c .order → Fit (groupShare table j (sharesOf c) g)
   part-fits g j l = inside .groups (inGroup table g) j l .scaled
 
-  pub groups-accurate : GroupsAccurate (c .order) (rateIn c) table k (groupSharesOf c table)
+  -- the exact weight of a group without states in the set
+  weight-outside : (g : ℕ) → ((i : ℕ) → i < c .order → inGroup table g i ≡ true → setOf c i ≡ false) → groupWeight (c .order) (rateIn c) (setOf c) table g ≡ 0
+  unfolding groupWeight setWeight
+  weight-outside g h = sum-none (c .order) (λ i l. go i l (inGroup table g i) refl)
+    where
+      go : (i : ℕ) → i < c .order → (b : Bool) → inGroup table g i ≡ b → cond b (setWeight (c .order) (rateIn c) (setOf c) i) 0 ≡ 0
+      go i l true e = spread-out (setOf c) 0 _ i (h i l e)
+      go i l false e = refl
+
+  -- a share near 0 of a positive sum is Zero
+  zero-of-near : {d : ℕ} (t : ℕ) (x : Scaled) → Fit x → 0 < t → Near factor d (val x * t) 0 → x ≡ zeroNumber
+  zero-of-near t x fits p h =
+      let z : val x * t ≡ 0 = near-zero h in
+      zero-of-value x fits (⊎-elim (λ e. e) (λ q. absurd (omega (arith, z, mul-pos q p))) (eq-zero-or-pos (val x)))
+
+  pub groups-accurate : GroupsAccurate (c .order) (rateIn c) (setOf c) table k (groupSharesOf c table)
   unfolding groupSharesOf groupWeight
   groups-accurate = record {
     scaled = λ g l. part-fits g (c .order) (omega arith);
-    near = λ g l. near-more (omega arith)
-        (group-near promises (inGroup table g) (sharesOf c) (c .order) (2 * k + c .order) (sum (c .order) (weight (c .order) (rateIn c)))
-        (weight (c .order) (rateIn c)) scaled (λ j b. part-fits g j b) near);
+    outside = λ g l h. zero-of-near _ _ (part-fits g (c .order) (omega arith)) sum-some
+        (near-eq (group g) refl (sym (ap (λ (w : ℕ). one * w) (weight-outside g h) ∙ mul-zero one)));
+    near = λ g l. group g;
   }
+    where
+      sum-some : 0 < sum (c .order) (setWeight (c .order) (rateIn c) (setOf c))
+      sum-some = sum-pos (c .order) _ (o .state) (o .below) (set-weight-pos o (o .state) (o .below) (o .inside))
+
+      group : (g : ℕ) → Near factor (2 * k + 2 * c .order) (val (groupShare table (c .order) (sharesOf c) g) * sum (c .order) (setWeight (c .order) (rateIn c) (setOf c)))
+          (one * groupWeight (c .order) (rateIn c) (setOf c) table g)
+      group g = near-more (omega (arith, size-le (c .order) (setOf c)))
+          (group-near promises (inGroup table g) (sharesOf c) (c .order) (2 * k + size (c .order) (setOf c)) (sum (c .order) (setWeight (c .order) (rateIn c) (setOf c)))
+          (setWeight (c .order) (rateIn c) (setOf c)) scaled (λ j b. part-fits g j b) near)

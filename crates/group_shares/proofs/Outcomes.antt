@@ -12,13 +12,15 @@ use Rattle.refusal.specs.declared.Refusal.{Refusal}
 use Rattle.refusal.specs.Table.{Verdict, accepts, refuses, verdict}
 use Rattle.chain.specs.Rows.{Rows}
 use Rattle.chain.specs.Meaning.{rateIn}
+use Rattle.reach.specs.Answer.{setOf}
 use Rattle.kernel.specs.Numbers.{Fit, ops}
 use Rattle.kernel.specs.Slices.{Slices, numberAt}
 use Rattle.kernel.specs.Kernel.{Holds}
 use Rattle.solver.specs.Lent.{Lent, bothHave, enoughIn, Places}
 use Rattle.solver.specs.Solve.{weightsOf, sharesOf, numbers, zeros, afterIn, Solved}
 use Rattle.solver.proofs.Demands as demands
-use Rattle.solver.proofs.Outcomes.{joined, back-done, numbers-sized, cut, cut-sized}
+use Rattle.elimination.proofs.Cut.{cut, joined}
+use Rattle.solver.proofs.Outcomes.{back-done, numbers-sized, places-cut}
 use Rattle.solver.proofs.Tables.{numbers-are, numbers-begin}
 use Rattle.group_table.specs.Sums.{groupPlaces, inGroup, groupShare}
 use Rattle.groups.specs.Inner.{Summable}
@@ -56,8 +58,9 @@ module _ {c : Rows} (table : List ℕ) (old : GroupLent) {r : Outcome} (q : verd
     weights = weights;
     shares = shares;
     groups = rw t;
+    the-set = λ k a. absurd (never k a);
     in-range = λ k a. absurd (never k a);
-    balancing = λ s h. demands.balancing (c .order) _ (s .order .low) h;
+    balancing = λ set o. demands.balancing (c .order) _ o;
     accurate = λ k a. absurd (never k a);
     groups-accurate = λ k a. absurd (never k a);
   }
@@ -98,8 +101,8 @@ module _ {c : Rows} (table : List ℕ) (old : GroupLent) {r : Outcome} (q : verd
     summable = record {
       order = solvable .sound .order .high;
       sound = solvable .table-sound;
-      sized = cut-sized places;
-      room = cut-sized (solvable .room .for-groups);
+      sized = places-cut (mid .shares) places;
+      room = places-cut (old .groups) (solvable .room .for-groups);
       fits = λ g k l. rw (picked-cong ops (inGroup table g) k (λ i b. cut-is i (omega arith))) (fits g k l);
     }
 
@@ -115,9 +118,10 @@ module _ {c : Rows} (table : List ℕ) (old : GroupLent) {r : Outcome} (q : verd
       group-is : (g : ℕ) → g < groupPlaces → numberAt (joined groupPlaces G (old .groups)) g ≡ groupSharesOf c table g
       group-is = numbers-begin groupPlaces (groupSharesOf c table) (verdict r) (old .groups) (solvable .room .for-groups) a groups-are
 
-      accurate : GroupsAccurate (c .order) (rateIn c) table j (groupSharesOf c table)
+      accurate : GroupsAccurate (c .order) (rateIn c) (setOf c) table j (groupSharesOf c table)
       accurate =
-          groups-accurate c table j (s .in-range j a) (λ i b. rw (← share-is i b) (s .accurate j a .shares-scaled i b)) (λ i b. rw (← share-is i b) (s .accurate j a .shares i b))
+          groups-accurate c table j (s .the-set j a .closed) (s .in-range j a)
+          (λ i b. rw (← share-is i b) (s .accurate j a .shares-scaled i b)) (λ i b. rw (← share-is i b) (s .accurate j a .shares i b))
 
       pub groups-done : GroupsSolved c table old r (record { solving = mid; groups = joined groupPlaces G (old .groups) })
       groups-done = record {
@@ -128,11 +132,13 @@ module _ {c : Rows} (table : List ℕ) (old : GroupLent) {r : Outcome} (q : verd
         weights = s .weights;
         shares = s .shares;
         groups = groups-are;
+        the-set = s .the-set;
         in-range = s .in-range;
         balancing = s .balancing;
         accurate = s .accurate;
         groups-accurate = λ k b. let e : j ≡ k = cc in record {
           scaled = λ g l. rw (group-is g l) (accurate .scaled g l);
+          outside = λ g l h. group-is g l ∙ accurate .outside g l h;
           near = λ g l. rw (group-is g l, ← e) (accurate .near g l);
         };
       }

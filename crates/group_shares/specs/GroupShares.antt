@@ -1,5 +1,5 @@
 -- Document 02, R-1: what solving with a group table answers, and what it leaves in every lent place, for any input.
-use mathlib.Core.Bool.{Bool, true, cond, _&&_}
+use mathlib.Core.Bool.{Bool, true, false, cond, _&&_}
 use mathlib.Core.List.{List}
 use mathlib.Core.Logic.{_↔_}
 use mathlib.Core.Path.{_≡_}
@@ -12,20 +12,20 @@ use Rattle.basics.specs.Near.{Near}
 use Rattle.refusal.specs.Table.{Verdict, Side, accepts, refuses, of-chain, numbered, verdict, andThen}
 use Rattle.refusal.specs.declared.Line.{Line}
 use Rattle.refusal.specs.declared.Outcome.{Outcome}
-use Rattle.markov.specs.Chain.{Rates, Irreducible}
-use Rattle.markov.specs.Weight.{weight}
-use Rattle.markov.specs.Count.{boundCount}
+use Rattle.markov.specs.Chain.{Rates}
+use Rattle.markov.specs.Closed.{OnlyClosed, HasAnswer, setWeight}
 use Rattle.scaled.specs.declared.Scaled.{Scaled}
-use Rattle.scaled.specs.Scaled.{isScaled}
+use Rattle.scaled.specs.Scaled.{zeroNumber, isScaled}
 use Rattle.scaled.specs.Units.{val, one, factor}
 use Rattle.chain.specs.Rows.{Rows}
 use Rattle.chain.specs.Rules.{checked}
 use Rattle.chain.specs.Sound.{Sound, Says}
 use Rattle.chain.specs.Meaning.{rateIn}
-use Rattle.reach.specs.Answer.{LowestPair}
+use Rattle.reach.specs.ClosedSets.{TwoClosed}
+use Rattle.reach.specs.Answer.{setOf}
 use Rattle.kernel.specs.Slices.{Slices, slices, numberAt}
 use Rattle.solver.specs.Lent.{Lent, lent, bothHave, enoughIn, Places, Roomy}
-use Rattle.solver.specs.Solve.{weightsOf, sharesOf, solved, numbers, zeros, afterIn, Balancing, Accurate, AllInside}
+use Rattle.solver.specs.Solve.{weightsOf, sharesOf, countOf, solved, numbers, zeros, afterIn, Balancing, Accurate, AllInside}
 use Rattle.group_table.specs.Rules.{tableChecked}
 use Rattle.group_table.specs.Sound.{SoundTable, TableSays}
 use Rattle.group_table.specs.Sums.{groupPlaces, inGroup, groupShare}
@@ -67,42 +67,45 @@ pub record GroupsSolvable (c : Rows) (table : List ℕ) (l : GroupLent) : Type 0
   pub sound : Sound c
   pub table-sound : SoundTable (c .order) table
   pub room : GroupRoomy (c .order) l
-  pub answer : Irreducible (c .order) (rateIn c)
+  pub answer : HasAnswer (c .order) (rateIn c)
 
 -- a refusal says that the refusals before it do not apply and that this one does; an acceptance that none does
 pub data GroupsSay (c : Rows) (table : List ℕ) (l : GroupLent) : Verdict ℕ → Type 0 where
   rule-broken : {side : Side} {line : Line} → Says c (refuses side line) → GroupsSay c table l (refuses side line)
   table-broken : {side : Side} {line : Line} → Sound c → TableSays (c .order) table (refuses side line) → GroupsSay c table l (refuses side line)
   no-room : Sound c → SoundTable (c .order) table → (GroupRoomy (c .order) l → ⊥) → GroupsSay c table l (refuses of-chain (numbered 5 0 0))
-  unreached : {i j : ℕ} → Sound c → SoundTable (c .order) table → GroupRoomy (c .order) l → LowestPair (c .order) (rateIn c) i j
+  two-closed : {i j : ℕ} → Sound c → SoundTable (c .order) table → GroupRoomy (c .order) l → TwoClosed (c .order) (rateIn c) i j
       → GroupsSay c table l (refuses of-chain (numbered 6 i j))
-  solves : GroupsSolvable c table l → GroupsSay c table l (accepts (boundCount (c .order)))
+  solves : GroupsSolvable c table l → GroupsSay c table l (accepts (countOf c))
 
 -- ---- the accuracy of the groups' shares
 
--- the exact weight of group g: the sum of the exact weights of its states
-unfoldable pub groupWeight : ℕ → Rates → List ℕ → ℕ → ℕ
-groupWeight n rate table g = sum n (λ i. cond (inGroup table g i) (weight n rate i) 0)
+-- the exact weight of group g: the sum of the exact weights of its states, 0 outside the closed set
+unfoldable pub groupWeight : ℕ → Rates → (ℕ → Bool) → List ℕ → ℕ → ℕ
+groupWeight n rate set table g = sum n (λ i. cond (inGroup table g i) (setWeight n rate set i) 0)
 
--- "Each group share lies within 2K + 2n factors of the exact one", divisors multiplied across, as in `Accurate`
-pub record GroupsAccurate (n : ℕ) (rate : Rates) (table : List ℕ) (count : ℕ) (share : ℕ → Scaled) : Type 0 where
+-- "Each group share lies within 2K + 2n factors of the exact one", with the whole order n, divisors multiplied across, as in `Accurate`. A
+-- group without states in the set is Zero.
+pub record GroupsAccurate (n : ℕ) (rate : Rates) (set : ℕ → Bool) (table : List ℕ) (count : ℕ) (share : ℕ → Scaled) : Type 0 where
   pub scaled : (g : ℕ) → g < groupPlaces → isScaled (share g) ≡ true
-  pub near : (g : ℕ) → g < groupPlaces → Near factor (2 * count + 2 * n) (val (share g) * sum n (weight n rate)) (one * groupWeight n rate table g)
+  pub outside : (g : ℕ) → g < groupPlaces → ((i : ℕ) → i < n → inGroup table g i ≡ true → set i ≡ false) → share g ≡ zeroNumber
+  pub near : (g : ℕ) → g < groupPlaces → Near factor (2 * count + 2 * n) (val (share g) * sum n (setWeight n rate set)) (one * groupWeight n rate set table g)
 
 -- ---- the contract of `solve_groups`, with the lent slices as they were and as they are at exit
 
 pub record GroupsSolved (c : Rows) (table : List ℕ) (old : GroupLent) (r : Outcome) (new : GroupLent) : Type 0 where
   pub answer : verdict r ≡ groupsSolved c table (enoughFor (c .order) old)
   pub says : GroupsSay c table old (verdict r)
-  pub acceptance : GroupsSolvable c table old ↔ (verdict r ≡ accepts (boundCount (c .order)))
+  pub acceptance : GroupsSolvable c table old ↔ (verdict r ≡ accepts (countOf c))
   -- as `solve` leaves them
   pub work : new .solving .work ≡ afterIn (verdict r) (old .solving .work) (zeros (c .order * c .order))
   pub weights : new .solving .weights ≡ afterIn (verdict r) (old .solving .weights) (numbers (c .order) (weightsOf c))
   pub shares : new .solving .shares ≡ afterIn (verdict r) (old .solving .shares) (numbers (c .order) (sharesOf c))
   pub groups : new .groups ≡ afterIn (verdict r) (old .groups) (numbers groupPlaces (groupSharesOf c table))
+  pub the-set : (k : ℕ) → verdict r ≡ accepts k → OnlyClosed (c .order) (rateIn c) (setOf c)
   -- every number met; its field `groups` has the partial sums of every group
   pub in-range : (k : ℕ) → verdict r ≡ accepts k → AllInside c
-  pub balancing : Sound c → Irreducible (c .order) (rateIn c) → Balancing (c .order) (rateIn c)
+  pub balancing : (set : ℕ → Bool) → OnlyClosed (c .order) (rateIn c) set → Balancing (c .order) (rateIn c) set
   pub accurate : (k : ℕ) → verdict r ≡ accepts k
-      → Accurate (c .order) (rateIn c) k (numberAt (new .solving .weights)) (numberAt (new .solving .shares))
-  pub groups-accurate : (k : ℕ) → verdict r ≡ accepts k → GroupsAccurate (c .order) (rateIn c) table k (numberAt (new .groups))
+      → Accurate (c .order) (rateIn c) (setOf c) k (numberAt (new .solving .weights)) (numberAt (new .solving .shares))
+  pub groups-accurate : (k : ℕ) → verdict r ≡ accepts k → GroupsAccurate (c .order) (rateIn c) (setOf c) table k (numberAt (new .groups))

@@ -1,5 +1,6 @@
--- The worked cases, the theorems of the exact theory, and the elimination's error bound.
+-- The worked cases, the theorems of the exact theory, the elimination's error bound, and both for a closed set.
 pub mod AllTrees
+pub mod AloneCases
 pub mod StepCounts
 pub mod ExactNumbers
 pub mod Cases
@@ -22,3 +23,10 @@ pub mod Diagonal
 pub mod DiagonalFits
 pub mod Exact
 pub mod CasesBound
+pub mod Members
+pub mod ClosedLaws
+pub mod Outside
+pub mod SetBalance
+pub mod SetBound
+pub mod WholeSet
+pub mod SameSet

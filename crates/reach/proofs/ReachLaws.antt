@@ -22,10 +22,13 @@ use Rattle.chain.proofs.Reading.{checked-says, sound-accepted, accepted-sound}
 use Rattle.chain.proofs.RateLaws.{rate-beyond}
 use Rattle.reach.specs.Reach.{via, stands, bits, isAccepted, reaches, Hold, ReachMasks}
 use Rattle.reach.specs.Inner.{viaBelow}
-use Rattle.reach.specs.Answer.{allReached, answered, AnswerSays, rule-broken}
-use Rattle.reach.proofs.AnswerLaws.{all-reached-cong, answered-says}
+use Rattle.reach.specs.ClosedSets.{firstLowest, lowestSet}
+use Rattle.reach.specs.Answer.{oneClosed, answered, setOf, AnswerSays, rule-broken}
+use Rattle.reach.proofs.AnswerLaws.{first-lowest-cong, one-closed-cong, answered-says}
 use Rattle.reach.proofs.MaskLaws.{no-bits, zeros, hold-zeros}
 use Rattle.reach.proofs.ViaLaws.{via-iff}
+use Rattle.reach.proofs.Lowest.{first-below}
+use Rattle.reach.proofs.OneClosed.{via-tells}
 
 -- no state below n reaches one that there is not
 via-beyond : (n : ℕ) (rate : Rates) → ((i j : ℕ) → i < n → n ≤ j → rate i j ≡ 0) → (k i j : ℕ) → k ≤ n → i < n → n ≤ j → via rate k i j ≡ false
@@ -83,12 +86,23 @@ module _ (c : Rows) where
       let e : checked c ≡ refusal f = sym q ∙ ap verdict t in
       (rw (t, e), rw t (rule-broken (rw e at (checked-says c))))
 
-  pub masks-answer : {v : Verdict ℕ} {masks : List ℕ} → Sound c → Hold masks (viaBelow (c .order) (rateIn c) (c .order))
-      → v ≡ allReached (c .order) (bits masks) (length (c .columns)) → (v ≡ answered c) × AnswerSays c v
-  unfolding answered
-  masks-answer {v} {masks} s h p = (e, rw e (answered-says c))
-    where
-      e : v ≡ answered c
-      e =
-          rw (sound-accepted c s)
-          (p ∙ all-reached-cong (c .order) (bits masks) (via (rateIn c) (c .order)) _ (λ i j a b. h .bit i j ∙ and-decides _ _ (lt-ltb i (c .order) a)))
+  module _ {masks : List ℕ} (s : Sound c) (h : Hold masks (viaBelow (c .order) (rateIn c) (c .order))) where
+    -- for states below n the masks are `via`
+    masks-via : (i j : ℕ) → i < c .order → j < c .order → bits masks i j ≡ via (rateIn c) (c .order) i j
+    masks-via i j a b = h .bit i j ∙ and-decides _ _ (lt-ltb i (c .order) a)
+
+    pub masks-first : firstLowest (c .order) (bits masks) < c .order
+    masks-first = rw (first-lowest-cong (c .order) (bits masks) (via (rateIn c) (c .order)) masks-via) (first-below (via-tells (c .order) (rateIn c)) (s .order .low))
+
+    pub masks-answer : {v : Verdict ℕ} → v ≡ oneClosed (c .order) (bits masks) (length (c .columns)) → (v ≡ answered c) × AnswerSays c v
+    unfolding answered
+    masks-answer {v} p = (e, rw e (answered-says c))
+      where
+        e : v ≡ answered c
+        e = rw (sound-accepted c s) (p ∙ one-closed-cong (c .order) (bits masks) (via (rateIn c) (c .order)) masks-via _)
+
+    pub masks-set : (i : ℕ) → i < c .order → lowestSet (c .order) (bits masks) i ≡ setOf c i
+    unfolding lowestSet setOf
+    masks-set i l =
+        masks-via _ i masks-first l
+        ∙ ap (λ (x : ℕ). via (rateIn c) (c .order) x i) (first-lowest-cong (c .order) (bits masks) (via (rateIn c) (c .order)) masks-via)

@@ -1,10 +1,11 @@
-// Which state of a chain reaches which: the masks, and refusal 6.
+// Which state of a chain reaches which: the masks, the closed set, and refusal 6.
 ghost use mathlib.Core.Path.{_≡_};
 ghost use mathlib.Core.Bool.{_&&_, _||_, not};
 ghost use Prim.Native.Nat.{ℕ, _+_, _-_, _<_, _≤_};
 ghost use lib.ListN.{length, getD};
 ghost use lib.Dec.{eqb, ltb};
 ghost use Rattle.basics.specs.Sum.{sum};
+ghost use Rattle.basics.specs.Below.{all};
 ghost use Rattle.basics.specs.First.{first};
 ghost use Rattle.refusal.specs.Table.{verdict};
 ghost use Rattle.chain.specs.Rows.{inRows};
@@ -12,7 +13,8 @@ ghost use Rattle.chain.specs.Sound.{Sound};
 ghost use Rattle.chain.specs.Meaning.{adds, rateIn};
 ghost use Rattle.reach.specs.Reach.{stands, bits, reaches, Hold, ReachMasks};
 ghost use Rattle.reach.specs.Inner.{viaBelow};
-ghost use Rattle.reach.specs.Answer.{allReached, answered, AnswerSays};
+ghost use Rattle.reach.specs.ClosedSets.{settles, isLowest, firstLowest, lowestSet};
+ghost use Rattle.reach.specs.Answer.{oneClosed, answered, setOf, AnswerSays};
 use refusal::ChainReason;
 use refusal::Outcome;
 use refusal::Refusal;
@@ -22,7 +24,7 @@ pub struct Masks {
     pub rows: [u64; 64],
 }
 
-fn test_bit(mask: u64, j: usize) -> bool
+pub fn test_bit(mask: u64, j: usize) -> bool
     requires { ⌜ j < 64 ⌝ }
     ensures { λ r. ⌜ r ≡ stands mask j ⌝ }
 {
@@ -98,7 +100,7 @@ fn close_over(masks: Masks, k: usize) -> Masks
 }
 
 // The masks of a chain whose rules hold.
-fn closed(n: usize, starts: &[u32], columns: &[u32], rates: &[u32]) -> Masks
+fn closure(n: usize, starts: &[u32], columns: &[u32], rates: &[u32]) -> Masks
     requires { ⌜ Sound (inRows n starts columns rates) ⌝ }
     ensures { λ r. ⌜ Hold (r .rows) (viaBelow n (rateIn (inRows n (starts .entry) (columns .entry) (rates .entry))) n) ⌝ }
 {
@@ -118,62 +120,112 @@ pub fn reach_masks(n: usize, starts: &[u32], columns: &[u32], rates: &[u32]) -> 
     let Outcome::Done(_) = answer else {
         return Masks { rows: [0; 64] };
     };
-    closed(n, starts, columns, rates)
+    closure(n, starts, columns, rates)
 }
 
-// The lowest bit below n that does not stand, or n.
-fn first_clear(row: u64, n: usize) -> usize
-    requires { ⌜ n ≤ 64 ⌝ }
-    ensures { λ r. ⌜ r ≡ first (λ j. not (stands row j)) 0 n ⌝ }
+// Whether no bit below i stands.
+fn none_below(row: u64, i: usize) -> bool
+    requires { ⌜ i ≤ 64 ⌝ }
+    ensures { λ r. ⌜ r ≡ all i (λ j. not (stands row j)) ⌝ }
 {
     let mut j = 0;
-    while j < n {
-        if !test_bit(row, j) {
-            return j;
+    while j < i {
+        if test_bit(row, j) {
+            return false;
         }
         j += 1;
     }
-    j
+    true
 }
 
-// The same where `clear` is the answer for a mask `known`: an equal mask is not searched again.
-fn first_clear_as(row: u64, known: u64, clear: usize, n: usize) -> usize
-    requires { ⌜ n ≤ 64 ⌝ }
-    requires { ⌜ clear ≡ first (λ j. not (stands known j)) 0 n ⌝ }
-    ensures { λ r. ⌜ r ≡ first (λ j. not (stands row j)) 0 n ⌝ }
+// Whether state j reaches state i, if i reaches it.
+fn comes_back(rows: &[u64], i: usize, j: usize) -> bool
+    requires { ⌜ (i < 64) × (j < 64) × (length (now rows) ≡ 64) ⌝ }
+    ensures { λ r. ⌜ r ≡ (not (bits (now (rows .entry)) i j) || bits (now (rows .entry)) j i) ⌝ }
 {
-    if row == known {
-        return clear;
+    if test_bit(rows[i], j) {
+        test_bit(rows[j], i)
+    } else {
+        true
     }
-    first_clear(row, n)
 }
 
-// Refusal 6, from the masks: the lowest state that does not reach some other, then the lowest that it does not reach.
-// Where the chain has an answer, all masks are equal.
-fn check_reached(masks: Masks, n: usize, entries: usize) -> Outcome
-    requires { ⌜ n ≤ 64 ⌝ }
-    ensures { λ r. ⌜ verdict r ≡ allReached n (bits (masks .rows)) entries ⌝ }
+// Whether all states that state i reaches reach it.
+fn settles(rows: &[u64], n: usize, i: usize) -> bool
+    requires { ⌜ (n ≤ 64) × (i < 64) × (length (now rows) ≡ 64) ⌝ }
+    ensures { λ r. ⌜ r ≡ settles n (bits (now (rows .entry))) i ⌝ }
 {
-    let known = masks.rows[0];
-    let clear = first_clear(known, n);
-    let mut from = 0;
-    while from < n {
-        let to = first_clear_as(masks.rows[from], known, clear, n);
-        if to < n {
-            return Outcome::Refused(Refusal::Chain(ChainReason::Unreached(from, to)));
+    let mut j = 0;
+    while j < n {
+        if !comes_back(rows, i, j) {
+            return false;
         }
-        from += 1;
+        j += 1;
     }
-    Outcome::Done(entries)
+    true
 }
 
-// The same answer as `check_answer` where 1 to 4 were checked before, as `check_answer` and `solve` do: refusal 6, or the number of entries.
-pub fn check_sound(n: usize, starts: &[u32], columns: &[u32], rates: &[u32]) -> Outcome
-    requires { ⌜ Sound (inRows n starts columns rates) ⌝ }
-    ensures computed { λ r. ⌜ verdict r ≡ answered (inRows n (starts .entry) (columns .entry) (rates .entry)) ⌝ }
-    ensures meaning { λ r. ⌜ AnswerSays (inRows n (starts .entry) (columns .entry) (rates .entry)) (verdict r) ⌝ }
+// Whether state i is the lowest state of a closed set.
+fn is_lowest(rows: &[u64], n: usize, i: usize) -> bool
+    requires { ⌜ (n ≤ 64) × (i < 64) × (length (now rows) ≡ 64) ⌝ }
+    ensures { λ r. ⌜ r ≡ isLowest n (bits (now (rows .entry))) i ⌝ }
 {
-    check_reached(closed(n, starts, columns, rates), n, columns.len())
+    if !none_below(rows[i], i) {
+        return false;
+    }
+    settles(rows, n, i)
+}
+
+// The first state from `from` on that is the lowest of a closed set, or the end of the search.
+fn next_lowest(rows: &[u64], from: usize, n: usize) -> usize
+    requires { ⌜ (n ≤ 64) × (length (now rows) ≡ 64) ⌝ }
+    ensures { λ r. ⌜ r ≡ first (isLowest n (bits (now (rows .entry)))) from n ⌝ }
+{
+    let mut i = from;
+    while i < n {
+        if is_lowest(rows, n, i) {
+            return i;
+        }
+        i += 1;
+    }
+    i
+}
+
+// The verdict of 1 to 4 and 6, and the closed set of a chain that has an answer: bit i stands if state i is in it.
+pub struct Answer {
+    pub outcome: Outcome,
+    pub set: u64,
+}
+
+// Refusal 6, from the masks: the lowest and the second lowest of the closed sets' lowest states. The set is what the first reaches.
+fn answer_from(masks: Masks, n: usize, entries: usize) -> Answer
+    requires { ⌜ (n ≤ 64) × (firstLowest n (bits (masks .rows)) < n) ⌝ }
+    ensures { λ r. ⌜ (verdict (r .outcome) ≡ oneClosed n (bits (masks .rows)) entries) × ((i : ℕ) → stands (r .set) i ≡ lowestSet n (bits (masks .rows)) i) ⌝ }
+{
+    let rows = masks.rows;
+    let first = next_lowest(&rows, 0, n);
+    let second = next_lowest(&rows, first + 1, n);
+    let set = rows[first];
+    if second < n {
+        return Answer {
+            outcome: Outcome::Refused(Refusal::Chain(ChainReason::ClosedSets(first, second))),
+            set,
+        };
+    }
+    Answer {
+        outcome: Outcome::Done(entries),
+        set,
+    }
+}
+
+// The verdict of `check_answer` where 1 to 4 were checked before, as `check_answer` and `solve` do, and the closed set.
+pub fn find_answer(n: usize, starts: &[u32], columns: &[u32], rates: &[u32]) -> Answer
+    requires { ⌜ Sound (inRows n starts columns rates) ⌝ }
+    ensures computed { λ r. ⌜ verdict (r .outcome) ≡ answered (inRows n (starts .entry) (columns .entry) (rates .entry)) ⌝ }
+    ensures meaning { λ r. ⌜ AnswerSays (inRows n (starts .entry) (columns .entry) (rates .entry)) (verdict (r .outcome)) ⌝ }
+    ensures set { λ r. ⌜ ((i : ℕ) → i < n → stands (r .set) i ≡ setOf (inRows n (starts .entry) (columns .entry) (rates .entry)) i) ⌝ }
+{
+    answer_from(closure(n, starts, columns, rates), n, columns.len())
 }
 
 // The first of 1 to 4 and 6 that applies, or the number of entries of a chain that has an answer.
@@ -185,5 +237,6 @@ pub fn check_answer(n: usize, starts: &[u32], columns: &[u32], rates: &[u32]) ->
     let Outcome::Done(_) = answer else {
         return answer;
     };
-    check_sound(n, starts, columns, rates)
+    let found = find_answer(n, starts, columns, rates);
+    found.outcome
 }

@@ -9,8 +9,8 @@ pub enum ChainReason {
     // Row, entry place.
     Columns(usize, usize),
     Room,
-    // From, to.
-    Unreached(usize, usize),
+    // The lowest and the second lowest of the closed sets' lowest states.
+    ClosedSets(usize, usize),
     // A state that no row of the group table holds.
     InNoRow(usize),
     // A state that two rows of the group table hold.
@@ -67,7 +67,7 @@ fn chain_line(reason: ChainReason) -> Line
         ChainReason::Starts => table_line(3, 0, 0),
         ChainReason::Columns(row, place) => table_line(4, row, place),
         ChainReason::Room => table_line(5, 0, 0),
-        ChainReason::Unreached(from, to) => table_line(6, from, to),
+        ChainReason::ClosedSets(first, second) => table_line(6, first, second),
         ChainReason::InNoRow(state) => table_line(11, state, 0),
         ChainReason::InTwoRows(state) => table_line(12, state, 0),
         ChainReason::TableRow(row) => table_line(13, row, 0),

@@ -1,5 +1,5 @@
--- What the printing program prints for a file that it accepts: the order, the bound count, and for each state numbers within their bounds
--- of the exact weights of the file's chain, which balance it. Assumes nothing.
+-- What the printing program prints for a file that it accepts: the order, the bound count of its chain's only closed set, and for each
+-- state numbers within their bounds of the exact weights, which balance the chain. Assumes nothing.
 use mathlib.Core.Bool.{true}
 use mathlib.Core.List.{List, [], _∷_, _++_}
 use mathlib.Core.Path.{_≡_}
@@ -8,17 +8,16 @@ use native.Mathlib.Omega.{arith}
 use lib.ListN.{getD}
 use Rattle.refusal.specs.Table.{accepts, andThen}
 use Rattle.refusal.proofs.VerdictLaws.{accepted-then}
-use Rattle.markov.specs.Chain.{Irreducible}
-use Rattle.markov.specs.Count.{boundCount}
+use Rattle.markov.specs.Closed.{OnlyClosed}
 use Rattle.chain.specs.Rows.{Rows}
 use Rattle.chain.specs.Rules.{checked}
 use Rattle.chain.specs.Sound.{Sound}
 use Rattle.chain.specs.Meaning.{rateIn}
-use Rattle.reach.specs.Answer.{answered}
-use Rattle.reach.proofs.AnswerLaws.{accepted-answer}
+use Rattle.reach.specs.Answer.{answered, setOf}
+use Rattle.reach.proofs.AnswerLaws.{accepted-answer, answer-set}
 use Rattle.layout.specs.Bytes.{mapBytes, storedCount, storedRate, ratesAt, storedRates, rowEnd, ratesIn, chainOf}
 use Rattle.checking.specs.Verdict.{fileChecked}
-use Rattle.solver.specs.Solve.{solved}
+use Rattle.solver.specs.Solve.{countOf, solved}
 use Rattle.solver.proofs.Demands.{balancing, accurate}
 use Rattle.solver.proofs.Ranges.{all-fit}
 use Rattle.report.specs.Report.{solvedText, reportOf, Printed}
@@ -49,14 +48,14 @@ module _ (bytes : List ℕ) (fit : (i : ℕ) → getD bytes i 0 < 256) where
 -- ---- the text
 
 -- a chain that solving accepts, where the lent slices suffice
-admitted : (c : Rows) {K : ℕ} → solved c true ≡ accepts K → Sound c × Irreducible (c .order) (rateIn c) × (K ≡ boundCount (c .order))
+admitted : (c : Rows) {K : ℕ} → solved c true ≡ accepts K → Sound c × OnlyClosed (c .order) (rateIn c) (setOf c) × (K ≡ countOf c)
 unfolding solved
 admitted c {K} h =
-    let r = accepted-then (checked c) (λ _. andThen (answered c) (λ _. accepts (boundCount (c .order)))) K h in
-    let a = accepted-then (answered c) (λ _. accepts (boundCount (c .order))) K (r .2) in
-    let e : _≡_ {A = ℕ} K (boundCount (c .order)) = (let q = a .2 in cc) in
+    let r = accepted-then (checked c) (λ _. andThen (answered c) (λ _. accepts (countOf c))) K h in
+    let a = accepted-then (answered c) (λ _. accepts (countOf c)) K (r .2) in
+    let e : _≡_ {A = ℕ} K (countOf c) = (let q = a .2 in cc) in
     let s = accepted-answer c (a .1) in
-    (s .0, s .1, e)
+    (s .0, answer-set c (s .0) (s .1), e)
 
 -- for every file of bytes that the program accepts
 pub end-to-end : (bytes : List ℕ) → ((i : ℕ) → getD bytes i 0 < 256) → {e K : ℕ} → fileChecked bytes ≡ accepts e → solved (chainOf bytes) true ≡ accepts K
@@ -69,6 +68,7 @@ end-to-end bytes fit {K = K} p q =
     record {
       text = rw (p, q);
       count = a .2;
-      balances = balancing n (rateIn c) (a .0 .order .low) (a .1);
-      bounds = rw (a .2) (accurate c (a .0 .order .low) (a .1) (all-fit (a .0) (rows-small bytes fit n n 1) (a .1)));
+      the-set = a .1;
+      balances = balancing n (rateIn c) (a .1);
+      bounds = rw (a .2) (accurate c (a .1 .closed) (all-fit (a .0) (rows-small bytes fit n n 1) (a .1 .closed)));
     }

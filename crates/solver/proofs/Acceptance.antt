@@ -5,7 +5,6 @@ use mathlib.Core.Path.{_≡_, refl, sym, _∙_}
 use Prim.Native.Nat.{ℕ}
 use native.Mathlib.Omega.{arith}
 use Rattle.refusal.specs.Table.{Verdict, accepts, refuses}
-use Rattle.markov.specs.Count.{boundCount}
 use Rattle.chain.specs.Rows.{Rows}
 use Rattle.chain.specs.Rules.{checked}
 use Rattle.chain.proofs.Reading.{checked-says, accepted-sound, sound-accepted}
@@ -13,7 +12,7 @@ use Rattle.reach.specs.Answer.{answered, AnswerSays}
 use Rattle.reach.specs.Answer as reach
 use Rattle.reach.proofs.AnswerLaws.{answered-says, answer-accepted}
 use Rattle.solver.specs.Lent.{Lent, enoughIn}
-use Rattle.solver.specs.Solve.{solved, Solvable, SolveSays, rule-broken, no-room, unreached, solves}
+use Rattle.solver.specs.Solve.{countOf, solved, Solvable, SolveSays, rule-broken, no-room, two-closed, solves}
 use Rattle.solver.proofs.Room.{roomy, roomy-held}
 
 module _ (c : Rows) (l : Lent) where
@@ -22,7 +21,7 @@ module _ (c : Rows) (l : Lent) where
       → SolveSays c l (solved c (enoughIn (c .order) l))
   unfolding solved
   at-reach q b e (reach.rule-broken h) = rw (q, b, e) (rule-broken h)
-  at-reach q b e (reach.unreached s h) = rw (q, b, e) (unreached s (roomy _ l b) h)
+  at-reach q b e (reach.two-closed s h) = rw (q, b, e) (two-closed s (roomy _ l b) h)
   at-reach q b e (reach.has-answer s h) = rw (q, b, e) (solves (record { sound = s; room = roomy _ l b; answer = h }))
 
   at-room : {k : ℕ} → checked c ≡ accepts k → (b : Bool) → enoughIn (c .order) l ≡ b → SolveSays c l (solved c (enoughIn (c .order) l))
@@ -39,7 +38,7 @@ module _ (c : Rows) (l : Lent) where
   solved-says = at-rules (checked c) refl
 
   -- accepted if and only if no refusal describes the input; the answer is then the bound count
-  pub solvable-accepted : Solvable c l → solved c (enoughIn (c .order) l) ≡ accepts (boundCount (c .order))
+  pub solvable-accepted : Solvable c l → solved c (enoughIn (c .order) l) ≡ accepts (countOf c)
   unfolding solved
   solvable-accepted h = rw (sound-accepted c (h .sound), roomy-held _ l (h .room), answer-accepted c (h .sound) (h .answer))
 
@@ -50,4 +49,4 @@ module _ (c : Rows) (l : Lent) where
       go v (solves h) q = h
       go v (rule-broken p) q = let z : _≡_ {A = ℕ} 0 1 = cc in absurd (omega arith)
       go v (no-room s b) q = let z : _≡_ {A = ℕ} 0 1 = cc in absurd (omega arith)
-      go v (unreached s b h) q = let z : _≡_ {A = ℕ} 0 1 = cc in absurd (omega arith)
+      go v (two-closed s b h) q = let z : _≡_ {A = ℕ} 0 1 = cc in absurd (omega arith)

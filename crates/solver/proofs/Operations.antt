@@ -40,7 +40,7 @@ zero-plus : (x : Scaled) → Fit x → plus zeroNumber x ≡ x
 unfolding plus
 zero-plus x f = ap settle (laws.sum-zero-left x f)
 
-plus-zero : (x : Scaled) → Fit x → plus x zeroNumber ≡ x
+pub plus-zero : (x : Scaled) → Fit x → plus x zeroNumber ≡ x
 unfolding plus
 plus-zero x f = ap settle (laws.sum-zero-right x f)
 

@@ -1,10 +1,11 @@
 // The public call that solves a chain: what it refuses, the bound count, and the elimination on the needed places.
 ghost use mathlib.Core.Path.{_≡_};
 ghost use Prim.Native.Nat.{_≤_};
-ghost use Rattle.refusal.specs.Table.{verdict};
 ghost use Rattle.chain.specs.Rows.{inRows};
 ghost use Rattle.solver.specs.Lent.{lent, bothHave, enough};
-ghost use Rattle.solver.specs.Solve.{solved, Solved};
+ghost use Rattle.solver.specs.Solve.{Solved};
+ghost use Rattle.solver.specs.Inner.{Admitted};
+use reach::Answer;
 use refusal::ChainReason;
 use refusal::Outcome;
 use refusal::Refusal;
@@ -29,7 +30,14 @@ fn enough(n: usize, m: usize, e: usize, wm: usize, we: usize, sm: usize, se: usi
     both_have(n, sm, se)
 }
 
-// 1 to 6, for lent slices of these lengths: the first refusal, or the bound count.
+// A refusal, and no set.
+fn refused(outcome: Outcome) -> Answer
+    ensures { λ r. ⌜ r .outcome ≡ outcome ⌝ }
+{
+    Answer { outcome, set: 0 }
+}
+
+// 1 to 6, for lent slices of these lengths: the first refusal, or the bound count; and the closed set of a chain that none refuses.
 fn admit(
     n: usize,
     starts: &[u32],
@@ -41,27 +49,32 @@ fn admit(
     we: usize,
     sm: usize,
     se: usize,
-) -> Outcome
-    ensures { λ r. ⌜ verdict r ≡ solved (inRows n (starts .entry) (columns .entry) (rates .entry)) (enough n m e wm we sm se) ⌝ }
+) -> Answer
+    ensures { λ r. ⌜ Admitted (inRows n (starts .entry) (columns .entry) (rates .entry)) (enough n m e wm we sm se) (r .outcome) (r .set) ⌝ }
 {
-    let answer = chain::check(n, starts, columns, rates);
-    let Outcome::Done(_) = answer else {
-        return answer;
+    let rules = chain::check(n, starts, columns, rates);
+    let Outcome::Done(_) = rules else {
+        return refused(rules);
     };
     if !enough(n, m, e, wm, we, sm, se) {
-        return Outcome::Refused(Refusal::Chain(ChainReason::Room));
+        return refused(Outcome::Refused(Refusal::Chain(ChainReason::Room)));
     }
-    let reached = reach::check_sound(n, starts, columns, rates);
-    let Outcome::Done(_) = reached else {
-        return reached;
+    let found = reach::find_answer(n, starts, columns, rates);
+    let answer = found.outcome;
+    let Outcome::Done(_) = answer else {
+        return found;
     };
-    Outcome::Done(bound::bound_count(n))
+    Answer {
+        outcome: Outcome::Done(bound::bound_count(members::size_of(found.set, n))),
+        set: found.set,
+    }
 }
 
 // Solves a chain: the weights (m, e) go to wm, we and the shares to sm, se; the answer is the bound count, or the first refusal of 1 to 6.
-// m and e are work places. The contract, `Solved`, holds for any input: it says the answer and what that means (demand 1), every lent
-// place at exit, that the exact weights balance a chain that has an answer and nothing else does (demand 2), and for an accepted chain how
-// near the results are to them (demand 3) and that every number met lies well inside the range (R-7).
+// States outside the chain's closed set get Zero (R-3). m and e are work places. The contract, `Solved`, holds for any input: it says the
+// answer and what that means (demand 1), every lent place at exit, that the exact weights balance the whole chain and whatever balances it
+// is in proportion to them (demand 2), and for an accepted chain how near the results are to them (demand 3) and that every number met lies well inside the range
+// (R-7).
 pub fn solve(
     n: usize,
     starts: &[u32],
@@ -78,7 +91,7 @@ pub fn solve(
         (lent (m .entry) (e .entry) (wm .entry) (we .entry) (sm .entry) (se .entry)) r
         (lent (m .exit) (e .exit) (wm .exit) (we .exit) (sm .exit) (se .exit)) ⌝ }
 {
-    let answer = admit(
+    let found = admit(
         n,
         starts,
         columns,
@@ -90,6 +103,7 @@ pub fn solve(
         sm.len(),
         se.len(),
     );
+    let answer = found.outcome;
     let Outcome::Done(_) = answer else {
         return answer;
     };
@@ -99,6 +113,8 @@ pub fn solve(
         starts,
         columns,
         rates,
+        found.set,
+        members::size_of(found.set, n),
         &mut m[..need],
         &mut e[..need],
         &mut wm[..n],

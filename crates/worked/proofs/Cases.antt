@@ -8,24 +8,27 @@ use Rattle.basics.specs.Below.{count, all, put}
 use Rattle.markov.specs.Weight.{over, led, leads, moves, weight}
 use Rattle.markov.specs.Elimination as elimination
 use Rattle.markov.specs.Count.{boundCount}
+use Rattle.markov.specs.Closed.{size, member, alone, spread, setWeight, setWeights, setShares}
 use Rattle.chain.specs.Rules.{startsSound, entryBad, columnsChecked, checked}
 use Rattle.chain.specs.Meaning.{rateIn}
 use Rattle.reach.specs.Reach.{via}
-use Rattle.reach.specs.Answer.{allReached, answered}
+use Rattle.reach.specs.ClosedSets.{settles, isLowest, firstLowest, secondLowest, lowestSet}
+use Rattle.reach.specs.Answer.{oneClosed, answered, setOf}
 use Rattle.kernel.specs.Numbers.{plus, times, dividedBy}
 use Rattle.layout.specs.Bytes as bytes
 use Rattle.checking.specs.Verdict as reading
 use Rattle.solver.specs.Lent.{enough}
-use Rattle.solver.specs.Solve.{entries, weightsOf, sharesOf, solved}
+use Rattle.solver.specs.Solve.{entries, setSize, weightsOf, sharesOf, countOf, solved}
 use Rattle.basics.specs.Lists.{table}
 use Rattle.worked.specs.Table.{Cases}
 
 pub cases-hold : Cases
-unfolding solved enough table weightsOf sharesOf entries plus times dividedBy oneNumber
+unfolding solved enough table weightsOf sharesOf entries setSize countOf plus times dividedBy oneNumber
     elimination.weights elimination.shares elimination.total elimination.pivotOf elimination.quotientAt elimination.next
     bitLengthUpTo bitLength isScaledAt cut roundedSum roundedProduct roundedQuotient converted isScaled sumOf productOf quotientOf rateOf
     weight over sum prod count put leads led all moves boundCount
-    checked startsSound columnsChecked entryBad rateIn answered allReached via
+    size member alone spread setWeight setWeights setShares
+    checked startsSound columnsChecked entryBad rateIn answered oneClosed setOf lowestSet firstLowest secondLowest isLowest settles via
     bytes.bitAt bytes.storedRate reading.readVerdict reading.fileChecked reading.rowChecked reading.rateChecked reading.roomToRead
 cases-hold = record {
   case-1 = record { accepted = refl; exact-weights = refl; weights-are = refl; shares-are = refl };
@@ -34,8 +37,11 @@ cases-hold = record {
   case-3 = record { accepted = refl; exact-weights = refl; weights-are = refl; shares-are = refl };
   case-4 = record { accepted = refl; exact-weights = refl; weights-are = refl; shares-are = refl };
   case-5 = refl;
-  case-6 = refl;
-  case-7 = refl;
+  case-6 = record { accepted = refl; exact-weights = refl; weights-are = refl; shares-are = refl };
+  case-7 = record { accepted = refl; exact-weights = refl; weights-are = refl; shares-are = refl };
+  ring = record { accepted = refl; exact-weights = refl; weights-are = refl; shares-are = refl };
+  refusal-6 = refl;
+  traps = refl;
   case-8 = (refl, refl, refl, refl);
   case-9 = (λ starts columns rates. refl, λ starts columns rates. refl, λ starts columns rates. refl);
 }

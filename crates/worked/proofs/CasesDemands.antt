@@ -2,28 +2,30 @@
 -- those theorems are not empty. Assumes nothing.
 use mathlib.Core.List.{List, [], _∷_}
 use mathlib.Core.Logic.{_≢_}
-use mathlib.Core.Path.{_≡_, refl, ap}
+use mathlib.Core.Path.{_≡_, refl, ap, _∙_}
 use Prim.Native.Nat.{ℕ, zero, suc, _*_, _<_}
 use native.Mathlib.Omega.{arith}
 use lib.Dec.{lit<}
 use lib.ListN.{getD}
 use Rattle.basics.specs.Sum.{sum}
+use Rattle.basics.specs.Below.{count, all}
 use Rattle.basics.specs.Near.{Near}
 use Rattle.scaled.specs.declared.Scaled.{Scaled}
 use Rattle.scaled.specs.Scaled.{zeroNumber}
 use Rattle.scaled.specs.Units.{val, one, factor}
-use Rattle.markov.specs.Chain.{Irreducible, Balances}
-use Rattle.markov.specs.Weight.{weight}
+use Rattle.markov.specs.Chain.{Balances}
+use Rattle.markov.specs.Closed.{HasAnswer, OnlyClosed, size, member, last, setWeight}
 use Rattle.markov.specs.Elimination.{pivotOf}
 use Rattle.markov.specs.Count.{boundCount}
 use Rattle.chain.specs.Rules.{startsSound, entryBad, columnsChecked, checked}
 use Rattle.chain.specs.Sound.{Sound}
 use Rattle.chain.specs.Meaning.{rateIn}
 use Rattle.reach.specs.Reach.{via}
-use Rattle.reach.specs.Answer.{allReached, answered}
-use Rattle.reach.proofs.AnswerLaws.{accepted-answer}
+use Rattle.reach.specs.ClosedSets.{settles, isLowest, firstLowest, secondLowest, lowestSet}
+use Rattle.reach.specs.Answer.{oneClosed, answered, setOf}
+use Rattle.reach.proofs.AnswerLaws.{accepted-answer, answer-set}
 use Rattle.kernel.specs.Numbers.{ops, stage}
-use Rattle.solver.specs.Solve.{entries, weightsOf, sharesOf, Balancing, Accurate, AllInside}
+use Rattle.solver.specs.Solve.{setSize, setEntries, weightsOf, sharesOf, countOf, Balancing, Accurate, AllInside}
 use Rattle.basics.specs.Lists.{table}
 use Rattle.solver.proofs.Demands.{balancing, accurate}
 use Rattle.solver.proofs.Ranges.{all-fit, in-range}
@@ -32,15 +34,15 @@ use Rattle.worked.proofs.Cases.{cases-hold}
 
 -- ---- the numbers of the table, state by state
 
-exact-0 : weight 2 (rateIn chain2) 0 ≡ 1
+exact-0 : setWeight 2 (rateIn chain2) (setOf chain2) 0 ≡ 1
 unfolding table
 exact-0 = ap (λ (xs : List ℕ). getD xs 0 0) (cases-hold .case-2 .exact-weights)
 
-exact-1 : weight 2 (rateIn chain2) 1 ≡ 3
+exact-1 : setWeight 2 (rateIn chain2) (setOf chain2) 1 ≡ 3
 unfolding table
 exact-1 = ap (λ (xs : List ℕ). getD xs 1 0) (cases-hold .case-2 .exact-weights)
 
-exact-sum : sum 2 (weight 2 (rateIn chain2)) ≡ 4
+exact-sum : sum 2 (setWeight 2 (rateIn chain2) (setOf chain2)) ≡ 4
 unfolding sum
 exact-sum = omega (arith, exact-0, exact-1)
 
@@ -66,9 +68,21 @@ share-1 = ap (at 1) (cases-hold .case-2 .shares-are)
 
 -- ---- what the theorems ask
 
-pub has-answer-2 : Sound chain2 × Irreducible 2 (rateIn chain2)
-unfolding answered allReached checked startsSound columnsChecked entryBad via rateIn sum
+pub has-answer-2 : Sound chain2 × HasAnswer 2 (rateIn chain2)
+unfolding answered oneClosed firstLowest secondLowest isLowest settles all checked startsSound columnsChecked entryBad via rateIn sum
 has-answer-2 = accepted-answer chain2 refl
+
+-- its closed set has both states, and the last is 1
+only-2 : OnlyClosed 2 (rateIn chain2) (setOf chain2)
+only-2 = answer-set chain2 (has-answer-2 .0) (has-answer-2 .1)
+
+size-2 : size 2 (setOf chain2) ≡ 2
+unfolding size setOf lowestSet firstLowest isLowest settles all via rateIn sum count
+size-2 = refl
+
+last-2 : last 2 (setOf chain2) ≡ 1
+unfolding last member size setOf lowestSet firstLowest isLowest settles all via rateIn sum count
+last-2 = refl
 
 words-2 : (p : ℕ) → getD (chain2 .rates) p 0 < 4294967296
 words-2 = elim [ zero ↦ lit< tt | suc zero ↦ lit< tt | suc (suc p) ↦ lit< tt ]
@@ -76,16 +90,17 @@ words-2 = elim [ zero ↦ lit< tt | suc zero ↦ lit< tt | suc (suc p) ↦ lit< 
 -- ---- R-7
 
 pub in-range-2 : AllInside chain2
-in-range-2 = in-range (has-answer-2 .0) words-2 (has-answer-2 .1)
+in-range-2 = in-range (has-answer-2 .0) words-2 (only-2 .closed)
 
 -- the pivot of its one step is the rate 3, which is not Zero
-pub pivot-2 : pivotOf ops 1 (stage 2 0 (entries chain2)) ≢ zeroNumber
-pivot-2 = in-range-2 .pivots 0 (omega arith)
+pub pivot-2 : pivotOf ops 1 (stage 2 0 (setEntries chain2)) ≢ zeroNumber
+unfolding setSize
+pivot-2 = rw size-2 at (in-range-2 .pivots 0 (omega (arith, size-2)))
 
 -- ---- demand 2
 
-pub balancing-2 : Balancing 2 (rateIn chain2)
-balancing-2 = balancing 2 (rateIn chain2) (omega arith) (has-answer-2 .1)
+pub balancing-2 : Balancing 2 (rateIn chain2) (setOf chain2)
+balancing-2 = balancing 2 (rateIn chain2) only-2
 
 -- 1 and 3 balance the chain
 pub balances-2 : Balances 2 (rateIn chain2) (λ i. getD (1 ∷ 3 ∷ []) i 0)
@@ -100,7 +115,7 @@ balances-2 = record {
 -- and what else balances it is in proportion to them
 pub proportion-2 : (w : ℕ → ℕ) → Balances 2 (rateIn chain2) w → w 0 * 3 ≡ w 1 * 1
 proportion-2 w b =
-    let h : w 0 * weight 2 (rateIn chain2) 1 ≡ w 1 * weight 2 (rateIn chain2) 0 = balancing-2 .unique w b .at 0 1 (omega arith) (omega arith) in
+    let h : w 0 * setWeight 2 (rateIn chain2) (setOf chain2) 1 ≡ w 1 * setWeight 2 (rateIn chain2) (setOf chain2) 0 = balancing-2 .unique w b .at 0 1 (omega arith) (omega arith) in
     rw (exact-0, exact-1) at h
 
 -- equal weights do not balance it
@@ -109,22 +124,23 @@ equal-weights-2 b = absurd (omega (arith, proportion-2 (λ i. 1) b))
 
 -- ---- demand 3, with K(2) = 8
 
-pub accurate-2 : Accurate 2 (rateIn chain2) 8
-    (weightsOf chain2) (sharesOf chain2)
-accurate-2 =
-    let bound : boundCount 2 ≡ 8 = cases-hold .case-8 .1 in
-    rw bound at (accurate chain2 (omega arith) (has-answer-2 .1) (all-fit (has-answer-2 .0) words-2 (has-answer-2 .1)))
+count-2 : countOf chain2 ≡ 8
+unfolding countOf setSize
+count-2 = ap boundCount size-2 ∙ cases-hold .case-8 .1
+
+pub accurate-2 : Accurate 2 (rateIn chain2) (setOf chain2) 8 (weightsOf chain2) (sharesOf chain2)
+accurate-2 = rw count-2 at (accurate chain2 (only-2 .closed) (all-fit (has-answer-2 .0) words-2 (only-2 .closed)))
 
 -- the computed weights lie within 8 factors of 1 / 3 and 3 / 3
 pub weight-0-near : Near factor 8 (val (scaled 2863311530 (minus 33)) * 3) (one * 1)
-weight-0-near = rw (weight-0, exact-0, exact-1) at (accurate-2 .weights 0 (omega arith))
+weight-0-near = rw (weight-0, last-2, exact-0, exact-1) at (accurate-2 .weights 0 (omega arith))
 
 pub weight-1-near : Near factor 8 (val (scaled 2147483648 (minus 31)) * 3) (one * 3)
-weight-1-near = rw (weight-1, exact-1) at (accurate-2 .weights 1 (omega arith))
+weight-1-near = rw (weight-1, last-2, exact-1) at (accurate-2 .weights 1 (omega arith))
 
 -- the shares lie within 2 × 8 + 2 factors of 1 / 4 and 3 / 4
 pub share-0-near : Near factor 18 (val (scaled 2147483648 (minus 33)) * 4) (one * 1)
-share-0-near = rw (share-0, exact-0, exact-sum) at (accurate-2 .shares 0 (omega arith))
+share-0-near = rw (size-2, share-0, exact-0, exact-sum) at (accurate-2 .shares 0 (omega arith))
 
 pub share-1-near : Near factor 18 (val (scaled 3221225472 (minus 32)) * 4) (one * 3)
-share-1-near = rw (share-1, exact-1, exact-sum) at (accurate-2 .shares 1 (omega arith))
+share-1-near = rw (size-2, share-1, exact-1, exact-sum) at (accurate-2 .shares 1 (omega arith))

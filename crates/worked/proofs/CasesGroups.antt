@@ -1,4 +1,4 @@
--- The shares of groups on case 3, by evaluation of the definitions, and what the bound says of these numbers, so that its theorem is not
+-- The shares of groups on cases 3 and 7, by evaluation of the definitions, and what the bound says of case 3, so that its theorem is not
 -- empty. Assumes nothing.
 use mathlib.Core.List.{List}
 use mathlib.Core.Path.{_≡_, refl, ap}
@@ -13,19 +13,20 @@ use Rattle.basics.specs.Lists.{table}
 use Rattle.scaled.specs.declared.Scaled.{Scaled}
 use Rattle.scaled.specs.Scaled.{zeroNumber, bitLengthUpTo, bitLength, isScaledAt, cut, roundedSum, roundedProduct, roundedQuotient, converted, isScaled, sumOf, productOf, quotientOf, rateOf}
 use Rattle.scaled.specs.Units.{oneNumber, val, one, factor}
-use Rattle.markov.specs.Chain.{Irreducible}
 use Rattle.markov.specs.Weight.{over, led, leads, moves, weight}
 use Rattle.markov.specs.Elimination as elimination
 use Rattle.markov.specs.Count.{boundCount}
+use Rattle.markov.specs.Closed.{HasAnswer, OnlyClosed, size, member, alone, spread, setWeight, setWeights, setShares}
 use Rattle.range.specs.Range.{picked}
 use Rattle.chain.specs.Rules.{startsSound, entryBad, columnsChecked, checked}
 use Rattle.chain.specs.Sound.{Sound}
 use Rattle.chain.specs.Meaning.{rateIn}
 use Rattle.reach.specs.Reach.{via}
-use Rattle.reach.specs.Answer.{allReached, answered}
-use Rattle.reach.proofs.AnswerLaws.{accepted-answer}
+use Rattle.reach.specs.ClosedSets.{settles, isLowest, firstLowest, secondLowest, lowestSet}
+use Rattle.reach.specs.Answer.{oneClosed, answered, setOf}
+use Rattle.reach.proofs.AnswerLaws.{accepted-answer, answer-set}
 use Rattle.kernel.specs.Numbers.{plus, times, dividedBy}
-use Rattle.solver.specs.Solve.{entries, weightsOf, sharesOf, solved, Accurate}
+use Rattle.solver.specs.Solve.{entries, setSize, weightsOf, sharesOf, countOf, solved, Accurate}
 use Rattle.solver.proofs.Demands.{accurate}
 use Rattle.solver.proofs.Ranges.{all-fit, in-range}
 use Rattle.group_table.specs.Rules.{rowBad, holders, tableChecked, groupOf}
@@ -33,39 +34,43 @@ use Rattle.group_shares.specs.GroupShares.{groupsSolved, groupSharesOf, groupWe
 use Rattle.group_shares.proofs.Bound.{groups-accurate}
 use Rattle.worked.specs.Table.{chain3, scaled, minus}
 use Rattle.worked.specs.Groups.{table3, GroupCases}
-use Rattle.worked.proofs.Cases.{cases-hold}
 
 pub group-cases-hold : GroupCases
 unfolding groupsSolved groupSharesOf groupWeight tableChecked rowBad holders groupOf picked
-    solved table weightsOf sharesOf entries plus times dividedBy oneNumber
+    solved table weightsOf sharesOf entries setSize countOf plus times dividedBy oneNumber
     elimination.weights elimination.shares elimination.total elimination.pivotOf elimination.quotientAt elimination.next
     bitLengthUpTo bitLength isScaledAt cut roundedSum roundedProduct roundedQuotient converted isScaled sumOf productOf quotientOf rateOf
     weight over sum prod count put leads led all moves boundCount
-    checked startsSound columnsChecked entryBad rateIn answered allReached via
-group-cases-hold = record { accepted = refl; groups-are = refl; exact-3 = refl; exact-15 = refl; exact-0 = refl }
+    size member alone spread setWeight setWeights setShares
+    checked startsSound columnsChecked entryBad rateIn answered oneClosed setOf lowestSet firstLowest secondLowest isLowest settles via
+group-cases-hold = record { accepted = refl; groups-are = refl; exact-3 = refl; exact-15 = refl; exact-0 = refl; accepted-7 = refl; groups-are-7 = refl; exact-9 = refl; exact-4 = refl }
 
 -- ---- what the theorem asks
 
-has-answer-3 : Sound chain3 × Irreducible 3 (rateIn chain3)
-unfolding answered allReached checked startsSound columnsChecked entryBad via rateIn sum
+has-answer-3 : Sound chain3 × HasAnswer 3 (rateIn chain3)
+unfolding answered oneClosed firstLowest secondLowest isLowest settles all checked startsSound columnsChecked entryBad via rateIn sum
 has-answer-3 = accepted-answer chain3 refl
+
+only-3 : OnlyClosed 3 (rateIn chain3) (setOf chain3)
+only-3 = answer-set chain3 (has-answer-3 .0) (has-answer-3 .1)
 
 words-3 : (p : ℕ) → getD (chain3 .rates) p 0 < 4294967296
 words-3 = elim [ zero ↦ lit< tt | suc zero ↦ lit< tt | suc (suc zero) ↦ lit< tt | suc (suc (suc p)) ↦ lit< tt ]
 
-accurate-3 : Accurate 3 (rateIn chain3) 28
-    (weightsOf chain3) (sharesOf chain3)
-accurate-3 =
-    let bound : boundCount 3 ≡ 28 = cases-hold .case-8 .2 in
-    rw bound at (accurate chain3 (omega arith) (has-answer-3 .1) (all-fit (has-answer-3 .0) words-3 (has-answer-3 .1)))
+count-3 : countOf chain3 ≡ 28
+unfolding countOf setSize size setOf lowestSet firstLowest isLowest settles all via rateIn sum count boundCount
+count-3 = refl
 
-groups-accurate-3 : GroupsAccurate 3 (rateIn chain3) table3 28 (groupSharesOf chain3 table3)
-groups-accurate-3 = groups-accurate chain3 table3 28 (in-range (has-answer-3 .0) words-3 (has-answer-3 .1)) (accurate-3 .shares-scaled) (accurate-3 .shares)
+accurate-3 : Accurate 3 (rateIn chain3) (setOf chain3) 28 (weightsOf chain3) (sharesOf chain3)
+accurate-3 = rw count-3 at (accurate chain3 (only-3 .closed) (all-fit (has-answer-3 .0) words-3 (only-3 .closed)))
+
+groups-accurate-3 : GroupsAccurate 3 (rateIn chain3) (setOf chain3) table3 28 (groupSharesOf chain3 table3)
+groups-accurate-3 = groups-accurate chain3 table3 28 (only-3 .closed) (in-range (has-answer-3 .0) words-3 (only-3 .closed)) (accurate-3 .shares-scaled) (accurate-3 .shares)
 
 -- ---- and what it says: within 2 × 28 + 2 × 3 factors of 48 / 56 and 8 / 56
 
-exact-sum : sum 3 (weight 3 (rateIn chain3)) ≡ 56
-unfolding weight over sum prod count put leads led all moves rateIn
+exact-sum : sum 3 (setWeight 3 (rateIn chain3) (setOf chain3)) ≡ 56
+unfolding weight over sum prod count put leads led all moves size member alone spread setWeight setOf lowestSet firstLowest isLowest settles via rateIn
 exact-sum = refl
 
 pub group-3-near : Near factor 62 (val (scaled 3681400539 (minus 32)) * 56) (one * 48)

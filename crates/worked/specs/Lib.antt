@@ -1,3 +1,3 @@
--- The table of the worked cases, and a case with groups.
+-- The table of the worked cases, and two cases with groups.
 pub mod Table
 pub mod Groups

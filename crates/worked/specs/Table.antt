@@ -1,4 +1,5 @@
--- Document 01, "Chains worked on paper (those marked * go in the proved table)": the single table of the starred cases, 1 to 9, and
+-- Document 01, "Chains worked on paper (those marked * go in the proved table)": the single table of the starred cases, 1 to 9, with
+-- cases 6 and 7 and the example of refusal 6 as R-3 has them; two rows more for R-3, with states outside the set and with two sets; and
 -- what its rows say, over the definitions that the contracts of the calls cite. `cases-hold` in proofs/Cases.antt proves it.
 use mathlib.Core.List.{List, [], _∷_}
 use mathlib.Core.Path.{_≡_}
@@ -8,11 +9,12 @@ use lib.ListN.{length}
 use Rattle.refusal.specs.Table.{Verdict, accepts, refuses, of-chain, of-bytes, numbered}
 use Rattle.refusal.specs.declared.Line.{Line}
 use Rattle.scaled.specs.declared.Scaled.{Scaled}
-use Rattle.scaled.specs.Scaled.{rateOf}
-use Rattle.markov.specs.Weight.{weight}
+use Rattle.scaled.specs.Scaled.{zeroNumber, rateOf}
+use Rattle.markov.specs.Closed.{setWeight}
 use Rattle.markov.specs.Count.{boundCount}
 use Rattle.chain.specs.Rows.{Rows, rows}
 use Rattle.chain.specs.Meaning.{rateIn}
+use Rattle.reach.specs.Answer.{setOf}
 use Rattle.layout.specs.Bytes.{chainOf}
 use Rattle.checking.specs.Verdict.{readVerdict}
 use Rattle.layout.specs.File.{fileOf}
@@ -36,7 +38,7 @@ abbrev pub answer : Rows → Verdict ℕ
 answer c = solved c (enough (c .order) (c .order * c .order) (c .order * c .order) (c .order) (c .order) (c .order) (c .order))
 
 abbrev pub exactWeights : Rows → List ℕ
-exactWeights c = table (c .order) (weight (c .order) (rateIn c))
+exactWeights c = table (c .order) (setWeight (c .order) (rateIn c) (setOf c))
 
 abbrev pub computedWeights : Rows → List Scaled
 computedWeights c = table (c .order) (weightsOf c)
@@ -93,6 +95,18 @@ chain6 = rows 2 (0 ∷ 1 ∷ 2 ∷ []) (1 ∷ 0 ∷ []) (0 ∷ 5 ∷ [])
 abbrev pub chain7 : Rows
 chain7 = rows 3 (0 ∷ 1 ∷ 2 ∷ 3 ∷ []) (1 ∷ 0 ∷ 0 ∷ []) (1 ∷ 1 ∷ 1 ∷ [])
 
+-- "n = 2 without entries"
+abbrev pub chain0 : Rows
+chain0 = rows 2 (0 ∷ 0 ∷ 0 ∷ []) [] []
+
+-- case 3's ring on the states 1, 2 and 4 of five; 0 and 3 are left for good, 0 to 1 rate 1, 0 to 3 rate 2, 3 to 0 and 3 to 4 rate 1
+abbrev pub chainRing : Rows
+chainRing = rows 5 (0 ∷ 2 ∷ 3 ∷ 4 ∷ 6 ∷ 7 ∷ []) (1 ∷ 3 ∷ 2 ∷ 4 ∷ 0 ∷ 4 ∷ 1 ∷ []) (1 ∷ 2 ∷ 2 ∷ 4 ∷ 1 ∷ 1 ∷ 8 ∷ [])
+
+-- two closed sets, 1 with 2, and 3, of five states: 0 to 1, 0 to 3, 1 to 2, 2 to 1, 4 to 3, all rate 1
+abbrev pub chainTraps : Rows
+chainTraps = rows 5 (0 ∷ 2 ∷ 3 ∷ 4 ∷ 4 ∷ 5 ∷ []) (1 ∷ 3 ∷ 2 ∷ 1 ∷ 3 ∷ []) (1 ∷ 1 ∷ 1 ∷ 1 ∷ 1 ∷ [])
+
 -- "02 02 03 00 00 00 01 01 00 00 00", whose printed lines case 2 refers to
 abbrev pub printed : List ℕ
 printed = 2 ∷ 2 ∷ 3 ∷ 0 ∷ 0 ∷ 0 ∷ 1 ∷ 1 ∷ 0 ∷ 0 ∷ 0 ∷ []
@@ -118,10 +132,18 @@ pub record Cases : Type 0 where
       (scaled 4294967295 (minus 32) ∷ scaled 2147483648 (minus 63) ∷ [])
   -- "Rate 3 is (3221225472, -30)."
   pub case-5 : rateOf 3 ≡ scaled 3221225472 (minus 30)
-  -- "refusal 6, (0, 1)"
-  pub case-6 : Refuses chain6 (numbered 6 0 1)
-  -- "refusal 6, (0, 2)"
-  pub case-7 : Refuses chain7 (numbered 6 0 2)
+  -- "cases 6 and 7 are now accepted": the closed set of case 6 is state 0 alone, that of case 7 the states 0 and 1
+  pub case-6 : Solves chain6 0 (1 ∷ 0 ∷ []) (scaled 2147483648 (minus 31) ∷ zeroNumber ∷ []) (scaled 2147483648 (minus 31) ∷ zeroNumber ∷ [])
+  pub case-7 : Solves chain7 8 (1 ∷ 1 ∷ 0 ∷ [])
+      (scaled 2147483648 (minus 31) ∷ scaled 2147483648 (minus 31) ∷ zeroNumber ∷ [])
+      (scaled 2147483648 (minus 32) ∷ scaled 2147483648 (minus 32) ∷ zeroNumber ∷ [])
+  -- as case 3, each number at its state
+  pub ring : Solves chainRing 28 (0 ∷ 32 ∷ 16 ∷ 0 ∷ 8 ∷ [])
+      (zeroNumber ∷ scaled 2147483648 (minus 29) ∷ scaled 2147483648 (minus 30) ∷ zeroNumber ∷ scaled 2147483648 (minus 31) ∷ [])
+      (zeroNumber ∷ scaled 2454267026 (minus 32) ∷ scaled 2454267026 (minus 33) ∷ zeroNumber ∷ scaled 2454267026 (minus 34) ∷ [])
+  -- "its example becomes n = 2 without entries, (0, 1)"
+  pub refusal-6 : Refuses chain0 (numbered 6 0 1)
+  pub traps : Refuses chainTraps (numbered 6 1 3)
   -- "K(1) = 0, K(2) = 8, K(3) = 28, K(64) = 182,784"
   pub case-8 : (boundCount 1 ≡ 0) × (boundCount 2 ≡ 8) × (boundCount 3 ≡ 28) × (boundCount 64 ≡ 182784)
   -- "Order byte 0 and 65: 1. Order byte 64 followed by nothing: 8."

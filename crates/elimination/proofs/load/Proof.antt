@@ -4,6 +4,7 @@ use Prim.Native.Nat.{_-_, _≤_}
 use native.Mathlib.Omega.{arith}
 use Rattle.chain.specs.Rows.{rows}
 use Rattle.kernel.specs.Slices.{pair}
+use Rattle.members.proofs.Listing.{listed-below}
 use Rattle.elimination.proofs.Cleared.{cleared}
 use Rattle.elimination.proofs.Loading.{LoadedTo, zeros-none, loaded-go, loaded-all}
 use borrow.Author.Needs.{needs}
@@ -24,13 +25,13 @@ loop-holds c =
 load-row-requires : tie.Need-load-row-requires Inv-loop μ-loop
 load-row-requires c κs =
     let L = c .before .before .before .before .before .before .before .before .before .before .before .before .before .before .before .before .pre in
-    (record { sound = L .sound; listed = L .listed; square = c .before .before .before .loop .inv .1 .square }, omega arith)
+    (record { sound = L .sound; set = L .set; listed = L .listed; square = c .before .before .before .loop .inv .1 .square }, omega arith)
 
 loop-again : tie.Need-loop-again Inv-loop μ-loop
 loop-again c =
     let d = c .before .before .before .before .before .before .before in
     let L = d .before .before .before .before .before .before .before .before .before .before .before .before .before .pre in
-    (omega arith, loaded-go (L .sound) (L .listed) (omega arith) (d .loop .inv .1) (c .before .before .before .load-row .ensures))
+    (omega arith, loaded-go (L .sound) (listed-below (L .listed)) (omega arith) (d .loop .inv .1) (c .before .before .before .load-row .ensures))
 
 same-length : tie.Need-same-length Inv-loop μ-loop
 same-length c =

@@ -5,7 +5,7 @@ use Rattle.refusal.specs.Table.{verdict}
 use Rattle.group_table.specs.Sums.{groupPlaces}
 use Rattle.groups.specs.Inner.{Summable}
 use Rattle.solver.specs.Lent.{Lent, Places}
-use Rattle.solver.proofs.Outcomes.{cut}
+use Rattle.elimination.proofs.Cut.{cut}
 use Rattle.kernel.specs.Slices.{pair, slices}
 use Rattle.group_shares.specs.GroupShares.{groupLent}
 use Rattle.group_shares.proofs.Outcomes.{by-solving, turned-away, solving-refused, places, group-room, summable, groups-done}

@@ -17,16 +17,16 @@ returns c =
     let h = masks-refused _ (sym (c .before .before .check .ensures .0) ∙ ap verdict (c .enum-told2 .given .1)) in
     (h, masks-mean _ _ h)
 
-closed-requires : tie.Need-closed-requires
-closed-requires c κs = sound c
+closure-requires : tie.Need-closure-requires
+closure-requires c κs = sound c
 
 returns-2 : tie.Need-returns-2
 returns-2 c =
-    let h = masks-accepted _ _ (sound (c .before)) (c .closed .ensures) in
+    let h = masks-accepted _ _ (sound (c .before)) (c .closure .ensures) in
     (h, masks-mean _ _ h)
 
 pub reach-masks-spec : {M : Type 1} → statement M
 reach-masks-spec =
     tie.close
     (tie.spec
-    (λ c κs. search needs) (λ c. search needs) (λ c. search needs) returns closed-requires returns-2)
+    (λ c κs. search needs) (λ c. search needs) (λ c. search needs) returns closure-requires returns-2)

@@ -1,10 +1,12 @@
--- The first refusal of 1 to 6, or the bound count. Assumes nothing.
+-- The first refusal of 1 to 6, or the bound count and the set. Assumes nothing.
 use native.Mathlib.Omega.{arith}
 use Rattle.basics.proofs.BoolLaws.{passed, failed}
+use Rattle.markov.proofs.Members.{size-le}
 use Rattle.chain.specs.Rows.{inRows}
 use Rattle.chain.specs.Sound.{Sound}
 use Rattle.chain.proofs.Reading.{accepted-sound}
-use Rattle.solver.proofs.Admission.{told, rules-refuse, room-refuses, reach-refuses, none-refuses}
+use Rattle.reach.specs.Reach.{stands}
+use Rattle.solver.proofs.Admission.{told, rules-refuse, room-refuses, sets-refuse, none-refuses}
 use borrow.Author.Needs.{needs}
 use Rattle.solver.proofs.admit.Statement.{statement}
 use Rattle.solver.proofs.admit.Tie as tie
@@ -14,34 +16,43 @@ sound : (c : tie.After-enum-told) → let a = c .before .before .before .before 
 sound c = accepted-sound _ (told (c .enum-told .given .1) (c .before .before .check .ensures .0))
 
 returns : tie.Need-returns
-returns c = rules-refuse _ _ (c .before .before .check .ensures .0) (c .enum-told2 .given .1)
+returns c = rules-refuse _ _ (c .before .before .before .check .ensures .0) (c .before .enum-told2 .given .1) (c .refused .ensures)
 
 returns-2 : tie.Need-returns-2
 returns-2 c =
-    let d = c .before .before in
-    room-refuses _ _ (told (d .enum-told .given .1) (d .before .before .check .ensures .0)) (failed (c .before .enough .ensures) (c .if1 .taken))
+    let i = c .before in
+    let d = i .before .before in
+    room-refuses _ _ (told (d .enum-told .given .1) (d .before .before .check .ensures .0)) (failed (i .before .enough .ensures) (i .if1 .taken)) (c .refused2 .ensures)
 
 returns-3 : tie.Need-returns-3
 returns-3 c =
-    let i = c .before .before .before in
+    let f = c .before .before in
+    let i = f .before in
     let d = i .before .before in
-    reach-refuses _ _ (told (d .enum-told .given .1) (d .before .before .check .ensures .0)) (passed (i .before .enough .ensures) (i .if1 .left))
-    (c .before .before .check-sound .ensures .0) (c .enum-told4 .given .1)
+    sets-refuse _ _ (told (d .enum-told .given .1) (d .before .before .check .ensures .0)) (passed (i .before .enough .ensures) (i .if1 .left))
+    (f .find-answer .ensures .0) (c .enum-told4 .given .1)
 
 returns-4 : tie.Need-returns-4
 returns-4 c =
-    let k = c .before in
-    let i = k .before .before .before in
+    let t = c .before .before in
+    let f = t .before .before in
+    let i = f .before in
     let d = i .before .before in
-    rw (c .bound-count .ensures)
-    (none-refuses _ _ (told (d .enum-told .given .1) (d .before .before .check .ensures .0)) (passed (i .before .enough .ensures) (i .if1 .left))
-    (told (k .enum-told3 .given .1) (k .before .before .check-sound .ensures .0)))
+    none-refuses _ _ (told (d .enum-told .given .1) (d .before .before .check .ensures .0)) (passed (i .before .enough .ensures) (i .if1 .left))
+    (told (t .enum-told3 .given .1) (f .find-answer .ensures .0)) (f .find-answer .ensures .1 .1) (c .before .size-of .ensures) (c .bound-count .ensures)
+
+-- at most 64 states are counted
+few : tie.Need-bound-count-requires
+few c κs =
+    let f = c .before .before .before in
+    let d = f .before .before .before in
+    let a = d .before .before .before .before .before .before .args in
+    omega (arith, c .size-of .ensures, size-le (a .n) (stands (f .find-answer .result .set)), sound d .order .high)
 
 pub admit-spec : {M : Type 1} → statement M
 admit-spec =
     tie.close
     (tie.spec
-    (λ c κs. search needs) (λ c. search needs) (λ c. search needs) returns (λ c κs. sound c .order .high) returns-2 (λ c κs. sound (c .before .before))
-    (λ c. search needs) (λ c. search needs) returns-3
-    (λ c κs. omega (arith, sound (c .before .before .before .before .before) .order .high))
-    returns-4)
+    (λ c κs. search needs) (λ c. search needs) (λ c. search needs) (λ c κs. search needs) returns (λ c κs. sound c .order .high) (λ c κs. search needs)
+    returns-2 (λ c κs. sound (c .before .before)) (λ c. search needs) (λ c. search needs) returns-3
+    (λ c κs. omega (arith, sound (c .before .before .before .before .before) .order .high)) few returns-4)

@@ -1,0 +1,3 @@
+-- What the contracts of `members` cite.
+pub mod Members
+pub mod Inner
