@@ -1,5 +1,5 @@
-//! Document 01 and request R-3 in plain Rust, nothing proved: scaled numbers, chains in rows and in bytes, the checks, the closed set and
-//! its elimination.
+//! Document 01 and requests in plain Rust, nothing proved: scaled numbers, chains in rows and in bytes, the checks, the
+//! closed set and its elimination.
 use std::io::{self, ErrorKind, Read};
 
 pub const MOST: usize = 64;
@@ -26,17 +26,22 @@ impl Scaled {
         }
     }
 
-    /// The largest scaled number not above m * 2^e; none where its exponent is outside the range.
-    fn cut(m: u64, e: i32) -> Option<Scaled> {
+    /// The scaled number nearest to m * 2^e, of two equally near the one with even m; none where its exponent is outside the range.
+    fn nearest(m: u64, e: i32) -> Option<Scaled> {
         if m == 0 {
             return Some(Scaled::ZERO);
         }
         let zeros = m.leading_zeros();
+        let m = m << zeros;
         let e = e + 32 - zeros as i32;
+        // the upper half is kept; this carries into it if the lower half is above 2^31, or is 2^31 and the upper half odd
+        let (m, e) = match m.checked_add(0x7FFF_FFFF + (m >> 32 & 1)) {
+            Some(sum) => ((sum >> 32) as u32, e),
+            None => (1 << 31, e + 1),
+        };
         if !(-16384..=16383).contains(&e) {
             return None;
         }
-        let m = (m << zeros >> 32) as u32;
         Some(Scaled { m, e })
     }
 
@@ -53,20 +58,25 @@ impl Scaled {
             (self, other)
         };
         let distance = high.e - low.e;
-        if distance > 31 {
+        if distance > 32 {
             return Some(high);
         }
-        Scaled::cut((u64::from(high.m) << distance) + u64::from(low.m), low.e)
+        Scaled::nearest((u64::from(high.m) << distance) + u64::from(low.m), low.e)
     }
 
     fn times(self, other: Scaled) -> Option<Scaled> {
-        Scaled::cut(u64::from(self.m) * u64::from(other.m), self.e + other.e)
+        Scaled::nearest(u64::from(self.m) * u64::from(other.m), self.e + other.e)
     }
 
-    /// None also for a quotient by Zero.
+    /// None also for a quotient by Zero. The quotient goes on with two bits of its rest: whether it is half a unit or more, and whether
+    /// more is left than that.
     fn over(self, other: Scaled) -> Option<Scaled> {
-        let quotient = (u64::from(self.m) << 32).checked_div(u64::from(other.m))?;
-        Scaled::cut(quotient, self.e - other.e - 32)
+        let (dividend, divisor) = (u64::from(self.m) << 32, u64::from(other.m));
+        let quotient = dividend.checked_div(divisor)?;
+        let twice = 2 * (dividend - quotient * divisor);
+        let half = u64::from(twice >= divisor);
+        let more = u64::from(twice != half * divisor);
+        Scaled::nearest(quotient << 2 | half << 1 | more, self.e - other.e - 34)
     }
 }
 
@@ -201,7 +211,7 @@ impl Chain {
 }
 
 /// Leaves each pivot on the diagonal, the quotients to its right, and the column below it as it stood at that step. (Inlined, it is
-/// compiled to a sixth more instructions.)
+/// compiled to 3 per cent more instructions.)
 #[inline(never)]
 fn eliminate(a: &mut [Scaled], n: usize) -> Option<()> {
     for k in 0..n - 1 {

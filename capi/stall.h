@@ -74,7 +74,7 @@ extern "C" {
  *   tries     1, 2, 3, 4, 5, 6 in that order; the side at fault is always the chain
  *   after 0   weight_m[i], weight_e[i] are the weight of state i (that of the closed set's last state is 1), share_m[i],
  *             share_e[i] its share; all n * n needed work places are 0; answer[0] is the bound count
- *             K(r) = (2 r^3 + 6 r^2 - 8 r) / 3, answer[1] and answer[2] are 0. With F = 2^31 / (2^31 - 1), each weight lies within
+ *             K(r) = (2 r^3 + 6 r^2 - 8 r) / 3, answer[1] and answer[2] are 0. With F = 2^32 / (2^32 - 1), each weight lies within
  *             K(r) factors F of the exact one, each share within 2 K(r) + r
  *   after a refusal  the work and result slices are unchanged */
 uint32_t stall_solve(size_t n,

@@ -16,7 +16,7 @@ REASONS = {
     9: "row {0} has an entry at column {1}, which is its own row or no state",
     10: "bytes are left over after the last row",
 }
-WORD = 2**31  # a factor is 2^31 / (2^31 - 1)
+WORD = 2**32  # a factor is 2^32 / (2^32 - 1)
 BAR = 40
 LEFT = "left for good"  # in the place of a bar, for a state outside the closed set
 
@@ -116,7 +116,7 @@ def decimal(whole, power):
 def guaranteed(x, count):
     """The most digits (up to 12) to which every number within count factors of x is rounded alike, as (whole, power of ten).
 
-    By Bernoulli's inequality (1 / F)^count is at least 1 - count / 2^31, so F^count is at most 2^31 / (2^31 - count).
+    By Bernoulli's inequality (1 / F)^count is at least 1 - count / 2^32, so F^count is at most 2^32 / (2^32 - count).
     """
     wide = Fraction(WORD, WORD - count)
     for digits in range(12, 0, -1):

@@ -5,7 +5,7 @@ Where a number is not a power of two it is one of document 01's own, from case 2
 from stored_chain import write
 
 ONE, HALF = "2147483648 -31", "2147483648 -32"
-THIRD, TWO_THIRDS = "2863311530 -33", "2863311530 -32"
+THIRD, TWO_THIRDS = "2863311531 -33", "2863311531 -32"
 RING = (  # case 3, state by state
     ("2147483648 -29", "2454267026 -32"), ("2147483648 -30", "2454267026 -33"), (ONE, "2454267026 -34"),
 )

@@ -174,11 +174,11 @@ def exact_problem(rows, weights):
     return None
 
 
-FACTOR = (2**31, 2**31 - 1)
+FACTOR = (2**32, 2**32 - 1)
 
 
 def at_most_times(x, y, c):
-    """Is x at most y * F^c, for whole x and y? By Bernoulli F^c is at least 1 + c / (2^31 - 1), a test in short numbers that
+    """Is x at most y * F^c, for whole x and y? By Bernoulli F^c is at least 1 + c / (2^32 - 1), a test in short numbers that
     is enough where it holds; only where it fails are the powers themselves multiplied out."""
     num, den = FACTOR
     return x * den <= y * (den + c) or x * den**c <= y * num**c

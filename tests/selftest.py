@@ -6,8 +6,10 @@ import tempfile
 from fractions import Fraction
 from itertools import combinations
 from pathlib import Path
+from types import SimpleNamespace
 
 import closed_files
+import scaled_checks
 import worked
 from chain_model import closed_sets, reached, rows_of
 from elimination_model import bound_count, eliminate, printed
@@ -16,7 +18,7 @@ from exact_solver import weights_by_minors, weights_by_trees
 from generate import sound, stored
 from groups_model import GROUPS, HELD, outcome, packed, places_needed, told
 from groups_run import EDGES, ORDER, call_bytes, call_of
-from scaled_model import ZERO, is_scaled, product_of, quotient_of, rate_of, sum_of, value
+from scaled_model import ZERO, rate_of, value
 from shares_view import guaranteed, relative, rounded
 from stored_chain import Refused, read, write
 
@@ -44,35 +46,6 @@ def same_by_trees(rows):
     (states,) = closed_components(rows)
     alone = taken_alone(rows, states)
     return weights_by_trees(alone) == weights_by_minors(alone) and exact_problem(rows, exact_weights(rows)) is None
-
-
-def is_largest_not_above(x, exact):
-    """Document 01's sentence: x is the largest scaled number not above exact, with e of any size."""
-    if exact == 0:
-        return x == ZERO
-    if x is None:  # the number with e of any size lies outside: below 2^31 * 2^-16384, or 2^32 * 2^16383 and more
-        return exact < value((2**31, -16384)) or exact >= value((2**32, 16383))
-    return is_scaled(x) and x != ZERO and value(x) <= exact < value((x[0] + 1, x[1]))
-
-
-def scaled_numbers(rng, many=3000):
-    def operand():
-        m = rng.choice((2**31, 2**32 - 1, rng.randrange(2**31, 2**32)))
-        e = rng.choice((-16384, 16383, rng.randint(-40, 40), rng.randint(-16384, 16383)))
-        return ZERO if rng.random() < 0.1 else (m, e)
-
-    for _ in range(many):
-        a, b = operand(), operand()
-        assert is_largest_not_above(sum_of(a, b), value(a) + value(b)), (a, b)
-        assert is_largest_not_above(product_of(a, b), value(a) * value(b)), (a, b)
-        if b != ZERO:
-            assert is_largest_not_above(quotient_of(a, b), value(a) / value(b)), (a, b)
-        rate = rng.randrange(2**rng.randint(0, 32))
-        assert value(rate_of(rate)) == rate
-    assert quotient_of((2**31, 0), ZERO) is None
-    for wrong in ((0, 5), (2**31 - 1, 0), (2**32, 0), (2**31, 16384), (2**31, -16385)):
-        assert sum_of(wrong, ZERO) is product_of(ZERO, wrong) is quotient_of(ZERO, wrong) is None
-    return f"{many} sums, products and quotients"
 
 
 def no_number():
@@ -203,11 +176,14 @@ SLIPS = (
     ("if at < len(data):", "if False:", "bytes left over let through"),
     ("if not 1 <= n <= MOST_STATES:", "if not 1 <= n <= 255:", "order 65 let through"),
     ('"little")) for p', '"big")) for p', "rates high byte first"),
-    ("largest_not_above((a[0] << (a[1] - e)) + (b[0] << (b[1] - e)), 1, e)",
-     "largest_not_above((a[0] >> (max(a[1], b[1]) - a[1])) + (b[0] >> (max(a[1], b[1]) - b[1])), 1, max(a[1], b[1]))",
+    ("nearest((a[0] << (a[1] - e)) + (b[0] << (b[1] - e)), 1, e, bits)",
+     "nearest((a[0] >> (max(a[1], b[1]) - a[1])) + (b[0] >> (max(a[1], b[1]) - b[1])), 1, max(a[1], b[1]), bits)",
      "operands shortened before adding"),
-    ("largest_not_above(a[0] * b[0], 1,", "largest_not_above(a[0] * b[0] + 2**30, 1,", "products rounded another way"),
-    ("largest_not_above(a[0], b[0],", "largest_not_above(a[0] + 1, b[0],", "quotients too large"),
+    ("nearest(a[0] * b[0], 1,", "nearest(a[0] * b[0] >> 31 << 31, 1,", "products shortened before they are rounded"),
+    ("nearest(a[0], b[0],", "nearest(a[0] + 1, b[0],", "quotients too large"),
+    ("a[i][j] = plus(a[i][j], times(a[i][k], t[j]))",
+     "x, y, e = a[i][j], a[i][k], min(a[i][j][1], a[i][k][1] + t[j][1]); "
+     "a[i][j] = nearest((x[0] << x[1] - e) + (y[0] * t[j][0] << y[1] + t[j][1] - e), 1, e)", "product and sum rounded at once"),
 )
 
 
@@ -250,14 +226,14 @@ GROUP_SLIPS = (
 PRINTING = ("tests/scaled_model", "tests/chain_model", "python/stored_chain", "tests/elimination_model")
 
 
-def models_with(old, new, parts, name):
-    """The function of this name in the models with one edit of their text."""
+def models_with(old, new, parts):
+    """The models with one edit of their text."""
     text = "\n".join((ROOT / f"{part}.py").read_text(encoding="utf-8") for part in parts)
     assert text.count(old) == 1, old
     lines = text.replace(old, new).split("\n")
     edited = {"__name__": "edited"}
     exec("\n".join(line for line in lines if not line.startswith(tuple(f"from {Path(part).name}" for part in parts))), edited)
-    return edited[name]
+    return SimpleNamespace(**edited)
 
 
 def answer(model, data):
@@ -270,15 +246,36 @@ def answer(model, data):
 def all_told_apart(slips, parts, model, inputs):
     right = [model(data) for data in inputs]
     for old, new, what in slips:
-        edited = models_with(old, new, parts, model.__name__)
+        edited = getattr(models_with(old, new, parts), model.__name__)
         assert any(answer(edited, data) != text for data, text in zip(inputs, right)), f"not told apart: {what}"
 
 
 def slips(seed=1, most=400):
-    files = [stored(seed, i) for i in range(most)]
-    all_told_apart(SLIPS + CLOSED_SLIPS, PRINTING, printed, files)
+    files, all_slips = [stored(seed, i) for i in range(most)], SLIPS + CLOSED_SLIPS + scaled_checks.SLIPS
+    all_told_apart(all_slips, PRINTING, printed, files)
     all_told_apart(CLOSED_SLIPS, PRINTING, printed, [data for _, data, _ in closed_files.files()])
-    return f"{len(SLIPS) + len(CLOSED_SLIPS)} slips, each told apart by the first {most} files of seed {seed}, those of R-3 by its fixed files too"
+    return f"{len(all_slips)} slips, each told apart by the first {most} files of seed {seed}, those of R-3 by its fixed files too"
+
+
+def finds(check, model):
+    try:
+        check(model)
+    except AssertionError:
+        return True
+    return False
+
+
+def rounding_slips():
+    """Each slip of rounding is found by each check of scaled numbers, those at the ends of the range by the checks of the ends."""
+    everywhere = (lambda model: scaled_checks.operations(random.Random(1), model), scaled_checks.short_words)
+    for slip in (*scaled_checks.SLIPS, *scaled_checks.RANGE_SLIPS):
+        old, new, what = slip
+        model = models_with(old, new, ("tests/scaled_model",))
+        checks = (scaled_checks.ends, scaled_checks.program, *(everywhere if slip in scaled_checks.SLIPS else ()))
+        for check in checks:
+            assert finds(check, model), f"not found by {check}: {what}"
+    many = len(scaled_checks.SLIPS) + len(scaled_checks.RANGE_SLIPS)
+    return f"{many} slips of rounding, found by the checks of scaled numbers and in what crates/scaled_run prints"
 
 
 def group_cases():
@@ -304,7 +301,8 @@ def group_slips(seed=1, most=400):
 
 def main():
     rng = random.Random(1)
-    parts = (worked_cases, lambda: scaled_numbers(rng), no_number, lambda: exact_solvers(rng), lambda: closed_by_all_means(rng), factors,
+    parts = (worked_cases, lambda: scaled_checks.operations(rng), scaled_checks.short_words, scaled_checks.ends,
+             rounding_slips, no_number, lambda: exact_solvers(rng), lambda: closed_by_all_means(rng), factors,
              lambda: round_trip(rng), examples, power_on_files, digits, slips, group_cases, group_slips)
     for part in parts:
         try:

@@ -55,7 +55,7 @@ pub struct Chain {
 /// What solving gives for an accepted chain.
 #[derive(Clone, Debug, PartialEq, Eq, Hash)]
 pub struct Solution {
-    /// The bound count K(r) of the r states of the closed set: with F = 2^31 / (2^31 - 1), each weight lies within K(r) factors F
+    /// The bound count K(r) of the r states of the closed set: with F = 2^32 / (2^32 - 1), each weight lies within K(r) factors F
     /// of the exact one, each share within 2 K(r) + r.
     pub bound: usize,
     /// The weight of each state; that of the closed set's last state is 1, that of a state outside Zero.
@@ -70,7 +70,7 @@ pub struct GroupSolution {
     /// What `solve` gives.
     pub solution: Solution,
     /// The share of each group, the sum of the shares of its states; Zero for a group without states in the closed set. With
-    /// F = 2^31 / (2^31 - 1), each lies within 2 K(r) + 2 n factors F of the exact one, n being the order of the chain.
+    /// F = 2^32 / (2^32 - 1), each lies within 2 K(r) + 2 n factors F of the exact one, n being the order of the chain.
     pub groups: [Scaled; GROUPS],
 }
 

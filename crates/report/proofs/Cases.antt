@@ -12,7 +12,7 @@ use lib.ListN.{getD, List·getD-eq-default}
 use Rattle.basics.specs.Sum.{sum}
 use Rattle.basics.specs.Below.{count, all}
 use Rattle.basics.proofs.BoolLaws.{all-at}
-use Rattle.scaled.specs.Scaled.{bitLengthUpTo, bitLength, isScaledAt, cut, roundedSum, roundedProduct, roundedQuotient, converted, sumOf, productOf, quotientOf, rateOf}
+use Rattle.scaled.specs.Scaled.{bitLengthUpTo, bitLength, isScaledAt, upward, carried, nearest, roundedSum, roundedProduct, roundedQuotient, converted, sumOf, productOf, quotientOf, rateOf}
 use Rattle.scaled.specs.Units.{oneNumber}
 use Rattle.markov.specs.Closed.{size, member, alone, spread, setWeights, setShares}
 use Rattle.markov.specs.Elimination as elimination
@@ -44,11 +44,11 @@ unfolding reportOf solvedText solved fileChecked rowChecked bitAt
     refusedLine decimal decimalDigits
 two-sets = refl
 
--- "Whole, for the bytes 02 02 03 00 00 00 01 01 00 00 00": "states 2 bound 8", "0 2863311530 -33 2147483648 -33" and
+-- "Whole, for the bytes 02 02 03 00 00 00 01 01 00 00 00": "states 2 bound 8", "0 2863311531 -33 2147483648 -33" and
 -- "1 2147483648 -31 3221225472 -32"
 pub printed : reportOf (2 ∷ 2 ∷ 3 ∷ 0 ∷ 0 ∷ 0 ∷ 1 ∷ 1 ∷ 0 ∷ 0 ∷ 0 ∷ [])
     ≡ 115 ∷ 116 ∷ 97 ∷ 116 ∷ 101 ∷ 115 ∷ 32 ∷ 50 ∷ 32 ∷ 98 ∷ 111 ∷ 117 ∷ 110 ∷ 100 ∷ 32 ∷ 56 ∷ 10
-    ∷ 48 ∷ 32 ∷ 50 ∷ 56 ∷ 54 ∷ 51 ∷ 51 ∷ 49 ∷ 49 ∷ 53 ∷ 51 ∷ 48 ∷ 32 ∷ 45 ∷ 51 ∷ 51
+    ∷ 48 ∷ 32 ∷ 50 ∷ 56 ∷ 54 ∷ 51 ∷ 51 ∷ 49 ∷ 49 ∷ 53 ∷ 51 ∷ 49 ∷ 32 ∷ 45 ∷ 51 ∷ 51
     ∷ 32 ∷ 50 ∷ 49 ∷ 52 ∷ 55 ∷ 52 ∷ 56 ∷ 51 ∷ 54 ∷ 52 ∷ 56 ∷ 32 ∷ 45 ∷ 51 ∷ 51 ∷ 10
     ∷ 49 ∷ 32 ∷ 50 ∷ 49 ∷ 52 ∷ 55 ∷ 52 ∷ 56 ∷ 51 ∷ 54 ∷ 52 ∷ 56 ∷ 32 ∷ 45 ∷ 51 ∷ 49
     ∷ 32 ∷ 51 ∷ 50 ∷ 50 ∷ 49 ∷ 50 ∷ 50 ∷ 53 ∷ 52 ∷ 55 ∷ 50 ∷ 32 ∷ 45 ∷ 51 ∷ 50 ∷ 10 ∷ []
@@ -56,7 +56,7 @@ unfolding reportOf solvedText headerLine stateLine stateLines signed decimal dec
     solved weightsOf sharesOf countOf setSize entries plus times dividedBy oneNumber
     size member alone spread setWeights setShares count
     elimination.weights elimination.shares elimination.total elimination.pivotOf elimination.quotientAt
-    bitLengthUpTo bitLength isScaledAt cut roundedSum roundedProduct roundedQuotient converted sumOf productOf quotientOf rateOf
+    bitLengthUpTo bitLength isScaledAt upward carried nearest roundedSum roundedProduct roundedQuotient converted sumOf productOf quotientOf rateOf
     all boundCount checked startsSound columnsChecked entryBad rateIn via sum
     answered oneClosed setOf firstLowest secondLowest lowestSet isLowest settles
     bitAt storedRate fileChecked rowChecked rateChecked
@@ -81,7 +81,7 @@ unfolding reportOf solvedText headerLine stateLine stateLines signed decimal dec
     solved weightsOf sharesOf countOf setSize entries plus times dividedBy oneNumber
     size member alone spread setWeights setShares count
     elimination.weights elimination.shares elimination.total elimination.pivotOf elimination.quotientAt
-    bitLength isScaledAt cut roundedSum roundedProduct roundedQuotient converted sumOf productOf quotientOf rateOf
+    bitLength isScaledAt upward carried nearest roundedSum roundedProduct roundedQuotient converted sumOf productOf quotientOf rateOf
     all boundCount checked startsSound columnsChecked entryBad rateIn via sum
     answered oneClosed setOf firstLowest secondLowest lowestSet isLowest settles
     bitAt storedRate fileChecked rowChecked rateChecked

@@ -1,5 +1,5 @@
-// Prints the sum, product and quotient of 400 pairs of operands, and 100 converted rates. The file stdout beside src/
-// is written by tests/scaled_model.py, which works with exact fractions and knows nothing of this code.
+// Prints the sum, product and quotient of 12 chosen pairs of operands, then of 400 generated pairs, and 100 converted rates. The file stdout
+// beside src/ is written by tests/scaled_model.py, which works with exact whole numbers and knows nothing of this code.
 use libc::STDOUT_FILENO;
 use scaled::Rounded;
 use scaled::Scaled;
@@ -100,6 +100,27 @@ fn print_operations(a: Scaled, b: Scaled) {
     newline();
 }
 
+// The pair (m1, e1), (m2, e2).
+fn print_pair(m1: u32, e1: i32, m2: u32, e2: i32) {
+    print_operations(Scaled { m: m1, e: e1 }, Scaled { m: m2, e: e2 });
+}
+
+// Pairs that the generator hardly meets: ties, carries to the next binade, a quotient above the half, then the ends of the range.
+fn print_edges() {
+    print_pair(0x8000_0000, 0, 0x8000_0000, -32);
+    print_pair(0x8000_0001, 0, 0x8000_0000, -32);
+    print_pair(0xFFFF_FFFF, 0, 0x8000_0000, -32);
+    print_pair(0xFFFF_FFFE, -31, 0xC000_0001, -62);
+    print_pair(0x8000_8000, 0, 0x8000_8000, 0);
+    print_pair(0x8000_8000, 0, 0x8001_8000, 0);
+    print_pair(0x8000_0000, 0, 0xC000_0000, 0);
+    print_pair(0xFFFF_FFFF, 16383, 0x8000_0000, 16351);
+    print_pair(0xFFFF_FFFF, 16383, 0xFFFF_FFFF, 16350);
+    print_pair(0x8000_0001, 8176, 0xFFFF_FFFE, 8176);
+    print_pair(2455465984, -8208, 3756261376, -8208);
+    print_pair(2455465984, -8208, 3756261375, -8208);
+}
+
 fn print_rate(s: u32) {
     let x = s >> s % 32;
     print_number(x);
@@ -130,6 +151,7 @@ fn turn(i: u32, s: u32) -> u32 {
 }
 
 fn main() {
+    print_edges();
     let mut s = 20240131;
     let mut i = 0;
     while i < 400 {

@@ -2,7 +2,7 @@
 -- example of crate `report` unfold its sum, product, quotient and conversion, since they state bits. Assumes nothing.
 use mathlib.Core.Path.{refl}
 use Rattle.basics.specs.Sum.{sum, prod}
-use Rattle.scaled.specs.Scaled.{bitLengthUpTo, bitLength, isScaledAt, cut, roundedSum, roundedProduct, roundedQuotient, converted, isScaled, sumOf, productOf, quotientOf, rateOf}
+use Rattle.scaled.specs.Scaled.{bitLengthUpTo, bitLength, isScaledAt, upward, carried, nearest, roundedSum, roundedProduct, roundedQuotient, converted, isScaled, sumOf, productOf, quotientOf, rateOf}
 use Rattle.scaled.specs.Units.{oneNumber}
 use Rattle.basics.specs.Below.{count, all, put}
 use Rattle.markov.specs.Weight.{over, led, leads, moves, weight}
@@ -25,7 +25,7 @@ use Rattle.worked.specs.Table.{Cases}
 pub cases-hold : Cases
 unfolding solved enough table weightsOf sharesOf entries setSize countOf plus times dividedBy oneNumber
     elimination.weights elimination.shares elimination.total elimination.pivotOf elimination.quotientAt elimination.next
-    bitLengthUpTo bitLength isScaledAt cut roundedSum roundedProduct roundedQuotient converted isScaled sumOf productOf quotientOf rateOf
+    bitLengthUpTo bitLength isScaledAt upward carried nearest roundedSum roundedProduct roundedQuotient converted isScaled sumOf productOf quotientOf rateOf
     weight over sum prod count put leads led all moves boundCount
     size member alone spread setWeight setWeights setShares
     checked startsSound columnsChecked entryBad rateIn answered oneClosed setOf lowestSet firstLowest secondLowest isLowest settles via

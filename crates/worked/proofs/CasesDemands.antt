@@ -50,7 +50,7 @@ exact-sum = omega (arith, exact-0, exact-1)
 abbrev at : ℕ → List Scaled → Scaled
 at i xs = getD xs i zeroNumber
 
-weight-0 : weightsOf chain2 0 ≡ scaled 2863311530 (minus 33)
+weight-0 : weightsOf chain2 0 ≡ scaled 2863311531 (minus 33)
 unfolding table
 weight-0 = ap (at 0) (cases-hold .case-2 .weights-are)
 
@@ -132,7 +132,7 @@ pub accurate-2 : Accurate 2 (rateIn chain2) (setOf chain2) 8 (weightsOf chain2) 
 accurate-2 = rw count-2 at (accurate chain2 (only-2 .closed) (all-fit (has-answer-2 .0) words-2 (only-2 .closed)))
 
 -- the computed weights lie within 8 factors of 1 / 3 and 3 / 3
-pub weight-0-near : Near factor 8 (val (scaled 2863311530 (minus 33)) * 3) (one * 1)
+pub weight-0-near : Near factor 8 (val (scaled 2863311531 (minus 33)) * 3) (one * 1)
 weight-0-near = rw (weight-0, last-2, exact-0, exact-1) at (accurate-2 .weights 0 (omega arith))
 
 pub weight-1-near : Near factor 8 (val (scaled 2147483648 (minus 31)) * 3) (one * 3)

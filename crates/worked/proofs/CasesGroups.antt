@@ -11,7 +11,8 @@ use Rattle.basics.specs.Below.{count, all, put}
 use Rattle.basics.specs.Near.{Near}
 use Rattle.basics.specs.Lists.{table}
 use Rattle.scaled.specs.declared.Scaled.{Scaled}
-use Rattle.scaled.specs.Scaled.{zeroNumber, bitLengthUpTo, bitLength, isScaledAt, cut, roundedSum, roundedProduct, roundedQuotient, converted, isScaled, sumOf, productOf, quotientOf, rateOf}
+use Rattle.scaled.specs.Scaled.{zeroNumber, bitLengthUpTo, bitLength, isScaledAt, upward, carried, nearest, roundedSum, roundedProduct, roundedQuotient}
+use Rattle.scaled.specs.Scaled.{converted, isScaled, sumOf, productOf, quotientOf, rateOf}
 use Rattle.scaled.specs.Units.{oneNumber, val, one, factor}
 use Rattle.markov.specs.Weight.{over, led, leads, moves, weight}
 use Rattle.markov.specs.Elimination as elimination
@@ -39,7 +40,7 @@ pub group-cases-hold : GroupCases
 unfolding groupsSolved groupSharesOf groupWeight tableChecked rowBad holders groupOf picked
     solved table weightsOf sharesOf entries setSize countOf plus times dividedBy oneNumber
     elimination.weights elimination.shares elimination.total elimination.pivotOf elimination.quotientAt elimination.next
-    bitLengthUpTo bitLength isScaledAt cut roundedSum roundedProduct roundedQuotient converted isScaled sumOf productOf quotientOf rateOf
+    bitLengthUpTo bitLength isScaledAt upward carried nearest roundedSum roundedProduct roundedQuotient converted isScaled sumOf productOf quotientOf rateOf
     weight over sum prod count put leads led all moves boundCount
     size member alone spread setWeight setWeights setShares
     checked startsSound columnsChecked entryBad rateIn answered oneClosed setOf lowestSet firstLowest secondLowest isLowest settles via

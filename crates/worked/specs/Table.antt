@@ -118,7 +118,7 @@ pub record Cases : Type 0 where
   pub case-1 : Solves chain1 0 (1 ∷ []) (scaled 2147483648 (minus 31) ∷ []) (scaled 2147483648 (minus 31) ∷ [])
   -- "as printed; exact weights 1, 3"
   pub case-2 : Solves chain2 8 (1 ∷ 3 ∷ [])
-      (scaled 2863311530 (minus 33) ∷ scaled 2147483648 (minus 31) ∷ [])
+      (scaled 2863311531 (minus 33) ∷ scaled 2147483648 (minus 31) ∷ [])
       (scaled 2147483648 (minus 33) ∷ scaled 3221225472 (minus 32) ∷ [])
   -- and the bytes of that print
   pub case-2-stored : Stores printed chain2

@@ -1,19 +1,20 @@
--- The first mantissa with 32 zero bits put to it, divided by the second, has 32 or 33 bits; the first 32 are kept. Assumes nothing.
-use mathlib.Core.Path.{_≡_, ap, ap₂, sym, _∙_}
+-- The first mantissa with 32 zero bits put to it, divided by the second, has 32 or 33 bits; two bits of the rest go on with them. Assumes nothing.
+use mathlib.Core.Path.{_≡_, ap, _∙_}
 use mathlib.Core.Bool.{true}
-use Prim.Native.Nat.{_*_, _/_, _≤_, _<_}
-use native.Mathlib.Nat.{div-one}
+use Prim.Native.Nat.{ℕ, _+_, _*_, _/_, _%_, _≤_, _<_}
+use native.Mathlib.Nat.{mod-lt}
 use native.Mathlib.Omega.{arith}
-use lib.IntN.{pos, negsuc, _-ℤ_, _+ℤ_, +ℤ-assoc}
+use lib.IntN.{ℤ, pos, _-ℤ_}
 use mir.Syntax.{w32}
 use mir.Val.{toZ, ofZ}
 use borrow.Author.Tests.{ne-eqb}
 use Rattle.scaled.specs.declared.Scaled.{Scaled}
-use Rattle.scaled.specs.Scaled.{isScaled, isScaledAt, ranged, exactQuotient, cut, quotientOf, roundedQuotient}
-use Rattle.scaled.proofs.Signed32.{Held, held, held-fits, stored, plus, minus}
-use Rattle.scaled.proofs.CutLaws.{cut-zero, cut-floor}
-use Rattle.scaled.proofs.Forms.{form, m-big, some-m, exponent-held, both-scaled}
+use Rattle.scaled.specs.Scaled.{isScaled, isScaledAt, dyadic, exactQuotient, nearest, quotientOf, roundedQuotient}
+use Rattle.scaled.proofs.Signed32.{Held, held, held-fits, held-small, stored, minus}
+use Rattle.scaled.proofs.Ties.{nearest-zero}
+use Rattle.scaled.proofs.Forms.{form, m-big, m-below, some-m, exponent-held, both-scaled}
 use Rattle.scaled.proofs.Mantissas.{quotient-low, quotient-high}
+use Rattle.scaled.proofs.Words.{Bits, bits-told, bits-small, nearest-ratio}
 use borrow.Author.Needs.{needs}
 use Rattle.scaled.proofs.wide_quotient.Statement.{statement}
 use Rattle.scaled.proofs.wide_quotient.Tie as tie
@@ -32,71 +33,100 @@ yes-2 : (s : tie.Start) → isScaledAt 31 (snd s) ≡ true
 unfolding isScaled
 yes-2 s = s .pre .1
 
-abbrev start : tie.After-struct-told2 → tie.Start
-start t = t .before .before .before .before .before .before .before .before
+divisor : (s : tie.Start) → 2147483648 ≤ snd s .m
+divisor s = m-big (form 31 _ (yes-2 s)) (λ z. omega (arith, some-m 31 _ (yes-2 s) (s .pre .2)))
 
-divisor : (s : tie.Start) → 0 < snd s .m
-divisor s = some-m 31 _ (yes-2 s) (s .pre .2)
-
--- the cut of the exact quotient
-exact : (s : tie.Start) → cut 31 (exactQuotient (fst s) (snd s)) ≡ quotientOf (fst s) (snd s)
+-- the exact quotient, rounded
+exact : (s : tie.Start) → nearest 31 (exactQuotient (fst s) (snd s)) ≡ quotientOf (fst s) (snd s)
 unfolding isScaled quotientOf roundedQuotient
 exact s = rw (ne-eqb (snd s .m) 0 (λ z. omega (arith, divisor s))) (both-scaled 31 _ _ _ (yes-1 s) (yes-2 s))
 
 difference : (s : tie.Start) → Held (toZ w32 (ofZ w32 (fst s .e)) -ℤ toZ w32 (ofZ w32 (snd s .e))) (fst s .e -ℤ snd s .e) 32769
 difference s = minus (exponent-held 31 _ (yes-1 s)) (exponent-held 31 _ (yes-2 s))
 
-exponent : (s : tie.Start) → Held (toZ w32 (ofZ w32 (toZ w32 (ofZ w32 (fst s .e)) -ℤ toZ w32 (ofZ w32 (snd s .e)))) -ℤ pos 32) (fst s .e -ℤ snd s .e -ℤ pos 32) 32803
-exponent s = minus (stored (difference s) (omega arith)) (held (pos 32) {n = 33} (omega arith))
+exponent : (s : tie.Start) → Held (toZ w32 (ofZ w32 (toZ w32 (ofZ w32 (fst s .e)) -ℤ toZ w32 (ofZ w32 (snd s .e)))) -ℤ pos 34) (fst s .e -ℤ snd s .e -ℤ pos 34) 32805
+exponent s = minus (stored (difference s) (omega arith)) (held (pos 34) {n = 35} (omega arith))
 
-following : (s : tie.Start) → Held
-    (toZ w32 (ofZ w32 (toZ w32 (ofZ w32 (toZ w32 (ofZ w32 (fst s .e)) -ℤ toZ w32 (ofZ w32 (snd s .e)))) -ℤ pos 32)) +ℤ pos 1)
-    (fst s .e -ℤ snd s .e -ℤ pos 32 +ℤ pos 1) 32805
-following s = plus (stored (exponent s) (omega arith)) (held (pos 1) {n = 2} (omega arith))
+abbrev quo : tie.Start → ℕ
+quo s = fst s .m * 4294967296 / snd s .m
+
+abbrev rest : tie.Start → ℕ
+rest s = fst s .m * 4294967296 % snd s .m
+
+left : (s : tie.Start) → rest s < snd s .m
+left s = mod-lt (fst s .m * 4294967296) (omega (arith, divisor s))
 
 -- where the first is not Zero, the quotient of the mantissas has 32 or 33 bits
-bounds : (s : tie.Start) → 0 < fst s .m → let x = fst s .m * 4294967296 / snd s .m in (2147483648 ≤ x) × (x < 8589934592)
-bounds s p =
-    let l : 2147483648 ≤ fst s .m = m-big (form 31 _ (yes-1 s)) (λ z. omega arith) in
-    let m : 2147483648 ≤ snd s .m = m-big (form 31 _ (yes-2 s)) (λ z. omega (arith, divisor s)) in
-    (quotient-low 31 (fst s .m) (snd s .m) l (omega arith) m (omega arith), quotient-high 31 (fst s .m) (snd s .m) l (omega arith) m (omega arith))
+module _ (s : tie.Start) (some : fst s .m ≡ 0 → ⊥) where
+  dividend : 2147483648 ≤ fst s .m
+  dividend = m-big (form 31 _ (yes-1 s)) some
 
-positive : (t : tie.After-struct-told2) → 0 < fst (start t) .m
-positive t = omega (arith, t .before .before .before .before .before .before .if1 .left)
+  low : 2147483648 ≤ quo s
+  low = quotient-low 31 (fst s .m) (snd s .m) dividend (m-below (form 31 _ (yes-1 s))) (divisor s) (m-below (form 31 _ (yes-2 s)))
+
+  high : quo s < 8589934592
+  high = quotient-high 31 (fst s .m) (snd s .m) dividend (m-below (form 31 _ (yes-1 s))) (divisor s) (m-below (form 31 _ (yes-2 s)))
+
+abbrev start : tie.After-last-bits → tie.Start
+start k = k .before .before .before .before .before
+
+told : (k : tie.After-last-bits) → Bits (rest (start k)) (snd (start k) .m) (k .last-bits .result)
+told k = let s = start k in bits-told (rest s) (snd s .m) (k .last-bits .result) (k .last-bits .ensures)
 
 returns : tie.Need-returns
-returns c = cut-zero 31 _ _ _ (c .if1 .taken) ∙ exact (c .before .before)
+returns c = nearest-zero 31 _ _ _ (c .if1 .taken) ∙ exact (c .before .before)
 
-sub-e : tie.Need-sub-e
-sub-e c = held-fits (difference (start c)) (omega arith)
+div-nearest : tie.Need-div-nearest
+div-nearest c = omega (arith, divisor (c .before .before .before .before))
 
-sub-e-2 : tie.Need-sub-e-2
-sub-e-2 c = held-fits (exponent (start c)) (omega arith)
+mul-nearest : tie.Need-mul-nearest
+mul-nearest c = let k = c .before .before in record { fits = omega (arith, high (k .before .before) (k .if1 .left)) }
+
+rem-last-bits : tie.Need-rem-last-bits
+rem-last-bits c = omega (arith, divisor (c .before .before .before .before))
+
+last-bits-requires : tie.Need-last-bits-requires
+last-bits-requires c κs = (left (c .before .before .before .before), omega arith)
+
+add-nearest : tie.Need-add-nearest
+add-nearest c = let k = c .before .before .before in record { fits = omega (arith, high (k .before .before) (k .if1 .left), bits-small (told c)) }
+
+sub-nearest : tie.Need-sub-nearest
+sub-nearest c = held-fits (difference (start (c .before .before .before .before))) (omega arith)
+
+sub-nearest-2 : tie.Need-sub-nearest-2
+sub-nearest-2 c = held-fits (exponent (start (c .before .before .before .before))) (omega arith)
+
+nearest-requires : tie.Need-nearest-requires
+nearest-requires c κs =
+    let k = c .before .before .before .before in
+    let s = start k in
+    (omega (arith, low s (k .before .before .before .if1 .left)), omega (arith, held-small (stored (exponent s) (omega arith))))
 
 returns-2 : tie.Need-returns-2
 returns-2 c =
-    let s = start (c .before) in
-    let p = positive (c .before) in
-    ap₂ ranged (sym (div-one _)) (stored (exponent s) (omega arith) .is)
-    ∙ cut-floor 31 32 0 (fst s .m) (snd s .m) _ p (divisor s) (rw div-one (bounds s p .0)) (rw div-one (c .if2 .taken)) ∙ exact s
-
-cast-t11 : tie.Need-cast-t11
-cast-t11 c = omega (arith, bounds (start (c .before)) (positive (c .before)) .1)
-
-add-t9 : tie.Need-add-t9
-add-t9 c = held-fits (following (start (c .before))) (omega arith)
-
-returns-3 : tie.Need-returns-3
-returns-3 c =
-    let s = start (c .before) in
-    let p = positive (c .before) in
-    ap (ranged _) (stored (following s) (omega arith) .is ∙ +ℤ-assoc (fst s .e -ℤ snd s .e) (negsuc 31) (pos 1))
-    ∙ cut-floor 31 32 1 (fst s .m) (snd s .m) _ p (divisor s) (omega (arith, c .if2 .left)) (omega (arith, bounds s p .1)) ∙ exact s
+    let k = c .before .before .before .before .before in
+    let s = start k in
+    c .nearest .ensures
+    ∙ ap (λ (z : ℤ). nearest 31 (dyadic (4 * quo s + k .last-bits .result) z)) (stored (exponent s) (omega arith) .is)
+    ∙ nearest-ratio 31 (fst s .m) (snd s .m) (k .last-bits .result) (fst s .e -ℤ snd s .e) (dividend s (k .before .before .before .if1 .left)) (m-below (form 31 _ (yes-1 s)))
+    (divisor s) (m-below (form 31 _ (yes-2 s))) (told k)
+    ∙ exact s
 
 pub wide-quotient-spec : {M : Type 1} → statement M
 wide-quotient-spec =
     tie.close
     (tie.spec
-    returns (λ c. search needs) (λ c. search needs) (λ c. search needs)
-    (λ c. omega (arith, divisor (c .before .before .before .before)))
-    sub-e sub-e-2 (λ c. search needs) returns-2 cast-t11 add-t9 returns-3)
+    returns
+    (λ c. search needs)
+    (λ c. search needs)
+    (λ c. search needs)
+    div-nearest
+    mul-nearest
+    rem-last-bits
+    last-bits-requires
+    add-nearest
+    sub-nearest
+    sub-nearest-2
+    nearest-requires
+    returns-2)
