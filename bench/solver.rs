@@ -88,6 +88,7 @@ pub enum Refusal {
     Lengths,
     Starts,
     Columns { row: usize, place: usize },
+    ZeroRate { row: usize, column: usize },
     Room,
     ClosedSets { first: usize, second: usize },
     OutOfRange,
@@ -158,10 +159,15 @@ impl Chain {
                 least = column + 1;
             }
         }
+        for row in 0..self.n {
+            if let Some((column, _)) = self.row(row).find(|&(_, rate)| rate == 0) {
+                return Err(Refusal::ZeroRate { row, column });
+            }
+        }
         Ok(())
     }
 
-    /// The columns and rates of row i, for a chain whose rules hold.
+    /// The columns and rates of row i, for a chain whose starts and columns keep their rules.
     fn row(&self, i: usize) -> impl Iterator<Item = (usize, u32)> + '_ {
         let places = self.starts[i] as usize..self.starts[i + 1] as usize;
         let columns = self.columns[places.clone()].iter();

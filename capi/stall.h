@@ -18,7 +18,7 @@
  *    1  the order is 0 or above 64
  *    2  columns and rates differ in length
  *    3  a rule of the row starts is broken
- *    4  a rule of the columns is broken: the row, the entry's place
+ *    4  a rule of the columns is broken: the row, the entry's place in the columns
  *    5  a lent buffer is shorter than needed
  *    6  the chain has two or more closed sets: the two lowest of the sets' lowest states
  *    8  the stored bytes end early
@@ -28,6 +28,9 @@
  *   12  a state is in two rows of the group table, or more: the lowest such state
  *   13  a row of the group table is cut short, has a first state above its last, a state of n or more, or a group above 15: the
  *       lowest such row
+ *   14  a rate is 0: the row and the column (not the place) of the first such entry in row order. In a chain it is tried after 4 has
+ *       been tried on every entry. From stall_read the bytes are at fault, from every other call the chain. The program `clean`
+ *       rewrites stored chains without such entries
  * After a refusal all lent memory is unchanged, the answer slice apart.
  *
  * The answer slice. Where it has three places or more, the first three are written, always:
@@ -59,11 +62,11 @@ extern "C" {
  *   starts   n + 1 numbers: the first is 0, none is below the one before, the last is columns_length
  *   columns  the entries of row i stand at places starts[i] up to, not including, starts[i + 1]; within a row they rise
  *            strictly, are below n and never equal the row
- *   rates    one for each column; a rate of 0 is an entry that means no move
+ *   rates    one for each column, each above 0; where there is no move there is no entry
  *
- * A non-empty set of states is closed if each of them reaches all the others of the set, over rates above 0, and nothing outside
- * it: once there, a station never leaves it. A chain has an answer if it has exactly one closed set; let r be the number of its
- * states. A state outside, such as one that is met only after power-on, is left for good: its weight and its share are Zero.
+ * A non-empty set of states is closed if each of them reaches all the others of the set and nothing outside it: once there, a
+ * station never leaves it. A chain has an answer if it has exactly one closed set; let r be the number of its states. A state
+ * outside, such as one that is met only after power-on, is left for good: its weight and its share are Zero.
  *
  * A result (m, e) means m * 2^e: 2^31 <= m < 2^32 and -16384 <= e <= 16383, or is Zero, (0, 0). Of weights and shares those of the
  * states outside the closed set are Zero, and no others. */
@@ -71,7 +74,7 @@ extern "C" {
 /* Solves a chain: its closed set as a chain of its own, in state order.
  *   needs     work_m, work_e: n * n places each; the four result slices: n places each, whatever r is; places beyond keep what
  *             they held
- *   tries     1, 2, 3, 4, 5, 6 in that order; the side at fault is always the chain
+ *   tries     1, 2, 3, 4, 14, 5, 6 in that order; the side at fault is always the chain
  *   after 0   weight_m[i], weight_e[i] are the weight of state i (that of the closed set's last state is 1), share_m[i],
  *             share_e[i] its share; all n * n needed work places are 0; answer[0] is the bound count
  *             K(r) = (2 r^3 + 6 r^2 - 8 r) / 3, answer[1] and answer[2] are 0. With F = 2^32 / (2^32 - 1), each weight lies within
@@ -94,8 +97,8 @@ uint32_t stall_solve(size_t n,
  *             each state is in one row; the rows stand in any order. Rows count from 0, and a last row of one or two numbers
  *             is a row cut short
  *   needs     what stall_solve needs; group_m, group_e: STALL_GROUPS places each; places beyond keep what they held
- *   tries     1, 2, 3, 4, 13, 12, 11, 5, 6 in that order; 13, 12 and 11 each look through the whole table before the next; the side
- *             at fault is always the chain
+ *   tries     1, 2, 3, 4, 14, 13, 12, 11, 5, 6 in that order; 13, 12 and 11 each look through the whole table before the next; the
+ *             side at fault is always the chain
  *   after 0   all that stall_solve says; and group_m[g], group_e[g] are the share of group g: the sum, from Zero, of the shares of
  *             its states, the lowest state first. A group without states in the closed set is Zero. Each lies within
  *             2 K(r) + 2 n factors F of the exact one
@@ -119,8 +122,8 @@ uint32_t stall_solve_groups(size_t n,
  * the rates whose bit stands, four bytes each, low byte first.
  *   needs     starts: n + 1 places; columns and rates: one place for each entry (STALL_MAX_ORDER + 1 and STALL_MAX_ENTRIES
  *             always do); places beyond keep what they held
- *   tries     the order byte (8 if absent, then 1); row by row the map cut short 8, a map's bit 9, rates cut short 8; then 10,
- *             then 5; the side at fault is always the bytes
+ *   tries     the order byte (8 if absent, then 1); row by row the map cut short 8, a map's bit 9, then for each rate the rate cut
+ *             short 8, a zero rate 14; after the last row 10, then 5; the side at fault is always the bytes
  *   after 0   the chain stands in the three slices; answer[0] is n, answer[1] the number of entries, answer[2] is 0. To solve or
  *             to write it, pass n + 1 starts and answer[1] columns and rates
  *   after a refusal  the three slices are unchanged */
@@ -132,7 +135,7 @@ uint32_t stall_read(const uint8_t *bytes, size_t bytes_length,
 
 /* Stores a chain. A chain without an answer (refusal 6 of solving) is stored too.
  *   needs     out: 1 + n * ((n + 7) / 8) + 4 * (entries) bytes (STALL_MAX_BYTES always do); bytes beyond keep what they held
- *   tries     1, 2, 3, 4, 5 in that order; the side at fault is always the chain
+ *   tries     1, 2, 3, 4, 14, 5 in that order; the side at fault is always the chain
  *   after 0   the file stands in the first answer[0] bytes of out; answer[1] and answer[2] are 0
  *   after a refusal  out is unchanged */
 uint32_t stall_write(size_t n,

@@ -11,6 +11,8 @@ static const uint32_t starts3[] = {0, 1, 2, 3}, columns3[] = {1, 2, 0}, rates3[]
 /* Case 7, with the starts of case 3: 0 to 1, 1 to 0 and 2 to 0, all rate 1. State 2 is outside the closed set. */
 static const uint32_t columns7[] = {1, 0, 0}, rates7[] = {1, 1, 1};
 
+#include "test_zero_rates.h"
+
 static void read_solve_write(void)
 {
     CHECK(read_fresh(case2, sizeof case2) == 0);
@@ -88,33 +90,38 @@ static void groups_refusals(void)
 /* A call with everything wrong, then mended in one thing after the other: the refusals come in their order. */
 static void groups_order(void)
 {
-    static const uint32_t late[] = {1, 1, 2, 3}, own[] = {1, 1, 0}, stuck[] = {2, 0, 0}; /* only 0 to 1: two closed sets, 1 and 2 */
+    static const uint32_t late[] = {1, 1, 2, 3}, own[] = {1, 1, 0}, zeros[] = {2, 0, 0};
+    static const uint32_t stuck[] = {0, 1, 1, 1}; /* of the ring only 0 to 1: two closed sets, 1 and 2 */
     static const uint32_t bad_row[] = {0, 1, 3, 1, 1, 16}, twice[] = {0, 1, 3, 1, 1, 15}, missing[] = {0, 1, 3};
     static const struct {
         uint32_t number;
         size_t first, second, n;
-        const uint32_t *starts, *columns, *rates;
+        const uint32_t *starts, *columns;
+        size_t columns_length;
+        const uint32_t *rates;
         size_t rates_length;
         const uint32_t *table;
         size_t table_length, group_places;
     } calls[] = {
-        {1, 0, 0, 65, late, own, stuck, 2, bad_row, 6, 15},
-        {2, 0, 0, 3, late, own, stuck, 2, bad_row, 6, 15},
-        {3, 0, 0, 3, late, own, stuck, 3, bad_row, 6, 15},
-        {4, 1, 1, 3, starts3, own, stuck, 3, bad_row, 6, 15},
-        {13, 1, 0, 3, starts3, columns3, stuck, 3, bad_row, 6, 15},
-        {12, 1, 0, 3, starts3, columns3, stuck, 3, twice, 6, 15},
-        {11, 2, 0, 3, starts3, columns3, stuck, 3, missing, 3, 15},
-        {5, 0, 0, 3, starts3, columns3, stuck, 3, table3, 6, 15},
-        {6, 1, 2, 3, starts3, columns3, stuck, 3, table3, 6, 16},
-        {0, 28, 0, 3, starts3, columns3, rates3, 3, table3, 6, 16},
+        {1, 0, 0, 65, late, own, 3, zeros, 2, bad_row, 6, 15},
+        {2, 0, 0, 3, late, own, 3, zeros, 2, bad_row, 6, 15},
+        {3, 0, 0, 3, late, own, 3, zeros, 3, bad_row, 6, 15},
+        {4, 1, 1, 3, starts3, own, 3, zeros, 3, bad_row, 6, 15},
+        {14, 1, 2, 3, starts3, columns3, 3, zeros, 3, bad_row, 6, 15},
+        {13, 1, 0, 3, stuck, columns3, 1, rates3, 1, bad_row, 6, 15},
+        {12, 1, 0, 3, stuck, columns3, 1, rates3, 1, twice, 6, 15},
+        {11, 2, 0, 3, stuck, columns3, 1, rates3, 1, missing, 3, 15},
+        {5, 0, 0, 3, stuck, columns3, 1, rates3, 1, table3, 6, 15},
+        {6, 1, 2, 3, stuck, columns3, 1, rates3, 1, table3, 6, 16},
+        {0, 28, 0, 3, starts3, columns3, 3, rates3, 3, table3, 6, 16},
     };
 
     for (size_t i = 0; i < COUNT(calls); i++) {
         mark();
-        CHECK(stall_solve_groups(calls[i].n, calls[i].starts, 4, calls[i].columns, 3, calls[i].rates, calls[i].rates_length, calls[i].table,
-                                 calls[i].table_length, work_m, 9, work_e, 9, weight_m, 3, weight_e, 3, share_m, 3, share_e, 3, group_m,
-                                 calls[i].group_places, group_e, 16, answer, COUNT(answer)) == calls[i].number);
+        CHECK(stall_solve_groups(calls[i].n, calls[i].starts, 4, calls[i].columns, calls[i].columns_length, calls[i].rates,
+                                 calls[i].rates_length, calls[i].table, calls[i].table_length, work_m, 9, work_e, 9, weight_m, 3, weight_e,
+                                 3, share_m, 3, share_e, 3, group_m, calls[i].group_places, group_e, 16, answer, COUNT(answer))
+              == calls[i].number);
         CHECK(answer_is(calls[i].first, calls[i].second, STALL_CHAIN));
         CHECK(calls[i].number == 0 ? group_is(3, 3681400539u, -32) : results_unchanged());
     }
@@ -138,12 +145,11 @@ static void solve_refusals(void)
 /* Two closed sets or more: 6 with the two lowest of their lowest states. */
 static void closed_sets_refused(void)
 {
-    static const uint32_t none[1], no_entries[65], zeros[] = {0, 0};
+    static const uint32_t none[1], no_entries[65];
     static const uint32_t pairs[] = {0, 1, 2, 3, 4}, across[] = {1, 0, 3, 2}, crossed[] = {3, 2, 1, 0}, fours[] = {4, 4, 4, 4};
     static const uint32_t three[] = {0, 1, 1, 2, 3, 3}, to[] = {4, 3, 2}, ones[] = {1, 1, 1};
 
     CHECK(solve_fresh(2, no_entries, 3, none, 0, none, 0) == 6 && answer_is(0, 1, STALL_CHAIN) && results_unchanged());
-    CHECK(solve_fresh(2, starts2, 3, columns2, 2, zeros, 2) == 6 && answer_is(0, 1, STALL_CHAIN) && results_unchanged());
     CHECK(solve_fresh(64, no_entries, 65, none, 0, none, 0) == 6 && answer_is(0, 1, STALL_CHAIN) && results_unchanged());
     /* 0 and 1, 2 and 3; then 0 and 3, 1 and 2 */
     CHECK(solve_fresh(4, pairs, 5, across, 4, fours, 4) == 6 && answer_is(0, 2, STALL_CHAIN) && results_unchanged());
@@ -155,18 +161,18 @@ static void closed_sets_refused(void)
 /* One closed set, and states outside it: they get Zero, and the count is that of the set. */
 static void states_outside(void)
 {
-    static const uint32_t one_way[] = {0, 1, 1}, zero_rate[] = {0, 5}, table7[] = {2, 2, 4, 0, 1, 9}, mixed7[] = {1, 2, 4, 0, 0, 9};
-    static const uint32_t starts5[] = {0, 1, 2, 4, 6, 7}, columns5[] = {2, 3, 1, 4, 1, 2, 0}, rates5[] = {2, 7, 0, 4, 1, 1, 8};
+    static const uint32_t one_way[] = {0, 1, 1}, back[] = {0, 0, 1}, table7[] = {2, 2, 4, 0, 1, 9}, mixed7[] = {1, 2, 4, 0, 0, 9};
+    static const uint32_t starts5[] = {0, 1, 2, 3, 5, 6}, columns5[] = {2, 3, 4, 1, 2, 0}, rates5[] = {2, 7, 4, 1, 1, 8};
 
     CHECK(solve_fresh(2, one_way, 3, columns2, 1, rates2, 1) == 0 && answer_is(0, 0, 0) && solved_in_place(2)); /* only 0 to 1 */
     CHECK(state_is(0, 0, 0, 0, 0) && state_is(1, 2147483648u, -31, 2147483648u, -31));
-    /* case 6, case 7 */
-    CHECK(solve_fresh(2, starts2, 3, columns2, 2, zero_rate, 2) == 0 && answer_is(0, 0, 0) && solved_in_place(2));
+    /* case 6 cleaned, only 1 to 0; case 7 */
+    CHECK(solve_fresh(2, back, 3, columns2 + 1, 1, rates2, 1) == 0 && answer_is(0, 0, 0) && solved_in_place(2));
     CHECK(state_is(0, 2147483648u, -31, 2147483648u, -31) && state_is(1, 0, 0, 0, 0));
     CHECK(solve_fresh(3, starts3, 4, columns7, 3, rates7, 3) == 0 && answer_is(8, 0, 0) && solved_in_place(3));
     CHECK(state_is(0, 2147483648u, -31, 2147483648u, -32) && state_is(1, 2147483648u, -31, 2147483648u, -32) && state_is(2, 0, 0, 0, 0));
-    /* The ring of case 3 as states 0, 2 and 4; from 1 and 3, which lead to each other, the way goes to 2, and a rate of 0 back to 1. */
-    CHECK(solve_fresh(5, starts5, 6, columns5, 7, rates5, 7) == 0 && answer_is(28, 0, 0) && solved_in_place(5));
+    /* The ring of case 3 as states 0, 2 and 4; from 1 and 3, which lead to each other, the way goes to 2. */
+    CHECK(solve_fresh(5, starts5, 6, columns5, 6, rates5, 6) == 0 && answer_is(28, 0, 0) && solved_in_place(5));
     for (int i = 0; i < 3; i++)
         CHECK(state_is(2 * i, 2147483648u, -29 - i, 2454267026u, -32 - i));
     CHECK(state_is(1, 0, 0, 0, 0) && state_is(3, 0, 0, 0, 0));
@@ -275,24 +281,33 @@ static void largest(void)
         CHECK(group_is(g, 2147483648u, -35));
 }
 
-/* Moves between neighbours of 64 states, up by rate 1, down by the highest: shares down to about 2^-2016. Then the same without the
- * last move up, so that the last state is outside the closed set; then also cut between 31 and 32, so that there are two. */
+/* Moves between neighbours of 64 states, up by rate 1 from the states below the last, down by the highest; none between 31 and 32 if
+ * the two are apart. Gives the number of entries. */
+static size_t levels(uint32_t *s, uint32_t *c, uint32_t *r, uint32_t last, int apart)
+{
+    size_t k = 0;
+    for (uint32_t i = 0; i < 64; i++) {
+        if (i > 0 && !(apart && i == 32)) {
+            c[k] = i - 1;
+            r[k++] = UINT32_MAX;
+        }
+        if (i < last && !(apart && i == 31)) {
+            c[k] = i + 1;
+            r[k++] = 1;
+        }
+        s[i + 1] = (uint32_t)k;
+    }
+    return k;
+}
+
+/* Shares down to about 2^-2016. Then the same without the last move up, so that the last state is outside the closed set; then also
+ * cut between 31 and 32, so that there are two. */
 static void rarest(void)
 {
     static uint32_t s[65], c[126], r[126];
-    for (uint32_t i = 0; i < 64; i++) { /* down stands at place 2 i - 1, up at 2 i */
-        if (i > 0) {
-            c[2 * i - 1] = i - 1;
-            r[2 * i - 1] = UINT32_MAX;
-        }
-        if (i < 63) {
-            c[2 * i] = i + 1;
-            r[2 * i] = 1;
-        }
-        s[i + 1] = i < 63 ? 2 * i + 1 : 126;
-    }
     for (int last = 63; last >= 62; last--) {
-        CHECK(solve_fresh(64, s, 65, c, 126, r, 126) == 0 && answer_is(last == 63 ? 182784 : 174468, 0, 0) && solved_in_place(64));
+        size_t k = levels(s, c, r, (uint32_t)last, 0);
+        CHECK(solve_fresh(64, s, 65, c, k, r, k) == 0 && answer_is(last == 63 ? 182784 : 174468, 0, 0) && solved_in_place(64));
         for (int i = 0; i <= last; i++) {
             CHECK(weight_m[i] >= 2147483648u && share_m[i] >= 2147483648u);
             /* The exact weight over the last one is (2^32 - 1)^(last - i), a little below 2^(32 * (last - i)) but for the last. */
@@ -301,10 +316,9 @@ static void rarest(void)
             CHECK(share_e[i] == -32 * i - (i > 0 ? 31 : 32));
         }
         CHECK(last == 63 || state_is(63, 0, 0, 0, 0));
-        r[2 * 62] = 0;
     }
-    r[2 * 31] = r[2 * 32 - 1] = 0;
-    CHECK(solve_fresh(64, s, 65, c, 126, r, 126) == 6 && answer_is(0, 32, STALL_CHAIN) && results_unchanged());
+    size_t k = levels(s, c, r, 62, 1);
+    CHECK(k == 123 && solve_fresh(64, s, 65, c, k, r, k) == 6 && answer_is(0, 32, STALL_CHAIN) && results_unchanged());
 }
 
 int main(void)
@@ -317,6 +331,8 @@ int main(void)
     closed_sets_refused();
     states_outside();
     read_refusals();
+    zero_rates();
+    zero_rates_read();
     short_buffers();
     short_answers();
     largest();

@@ -53,6 +53,8 @@ def add_move(numbers, moves, start, end, rate, place):
         raise Stop(f"{place}: this move stands twice")
     if len(rate) > len(str(MOST_RATE)) or int(rate) > MOST_RATE:
         raise Stop(f"{place}: the rate {shortened(rate)} is above {MOST_RATE}")
+    if int(rate) == 0:
+        raise Stop(f"{place}: a rate of 0 is no move: leave the move out (a line \"state NAME\" names a state without one)")
     moves[i, j] = int(rate)
 
 

@@ -1,15 +1,18 @@
-"""What the tools share: files read and written with a message where that fails, and exit statuses."""
+"""What the tools share: files read and written with a message where that fails, programs proved, built and run, and exit statuses."""
 import argparse
 import os
 import stat
+import subprocess
 import sys
 import tempfile
+from pathlib import Path
 
+ROOT = Path(__file__).resolve().parent.parent
 STATUSES = """exit status:
   0  the answer was printed, or the file written
   1  the chain was refused
   2  wrong usage, a file that cannot be read or written, or a text that describes no chain
-  3  the printing program could not be built or run, or its result was lost on the way out"""
+  3  a program could not be built or run, or its result was lost on the way out"""
 REFUSED, WRONG_INPUT, LOST = 1, 2, 3
 
 
@@ -32,7 +35,8 @@ class Options(argparse.ArgumentParser):
 
 
 def tell(message):
-    print(f"{os.path.basename(sys.argv[0])}: {message}", file=sys.stderr)
+    if sys.stderr:  # without one, print would write to standard output
+        print(f"{os.path.basename(sys.argv[0])}: {message}", file=sys.stderr)
 
 
 def put(text):
@@ -57,22 +61,81 @@ def content(path, most=-1):
 
 
 def replace(path, data):
-    """Writes a file. A failure leaves an older file as it was."""
+    """Writes a file. A failure leaves an older file as it was. An older one keeps its mode and, from root, its owner."""
     part = None
     try:
-        path = os.path.realpath(path)
-        if os.path.exists(path) and not stat.S_ISREG(os.stat(path).st_mode):
-            with open(path, "wb") as file:  # a device or a pipe
+        real = os.path.realpath(path)
+        if os.path.exists(path) and not os.path.isfile(real):
+            with open(path, "wb") as file:  # a device or a pipe; a pipe's real path names nothing
                 file.write(data)
             return
+        path = real
         with tempfile.NamedTemporaryFile(dir=os.path.dirname(path), delete=False) as part:
             part.write(data)
-        os.chmod(part.name, 0o644)
+        dress(part.name, path)
         os.replace(part.name, path)
     except OSError as error:
         if part is not None and os.path.exists(part.name):
             os.unlink(part.name)
         raise Stop(f"{path}: {error.strerror}") from error
+
+
+def dress(part, path):
+    """Gives a file the mode of an older one and, from root, its owner; without an older one the mode 0666 less the umask."""
+    try:
+        older = os.stat(path)
+    except FileNotFoundError:
+        umask = os.umask(0o077)
+        os.umask(umask)
+        os.chmod(part, 0o666 & ~umask)
+        return
+    if os.geteuid() == 0:
+        os.chown(part, older.st_uid, older.st_gid)
+    os.chmod(part, stat.S_IMODE(older.st_mode))
+
+
+def store(path, data, words):
+    """Writes a file, then words about it to standard output; to standard error if the file is standard output, to keep its bytes whole."""
+    try:
+        same = os.path.samestat(os.stat(path), os.fstat(1))
+    except OSError:
+        same = False
+    replace(path, data)
+    if same:
+        tell(f"{path}: {words}")
+    else:
+        put(f"{path}: {words}\n")
+
+
+def build(crate, called):
+    """Has a program proved and built, and gives its path. It tells of each crate as it is proved, but not of those that stand."""
+    program = ROOT / "target" / "bin" / crate
+    if not program.exists():
+        tell(f"proving and building {called}; this takes some minutes the first time")
+    try:
+        prover = subprocess.Popen(["rt", "check", crate], cwd=ROOT, stdout=subprocess.PIPE, stderr=subprocess.STDOUT, text=True)
+    except OSError as error:
+        raise Stop(f"rt: {error.strerror}; the Rattle kit is needed to prove and build {called}", LOST) from error
+    lines = []
+    for line in prover.stdout:
+        lines.append(line)
+        if line.startswith("rt: ") and "unchanged since" not in line and not line.startswith("rt: ok"):
+            tell(line.strip().removeprefix("rt: "))
+    if prover.wait():
+        raise Stop("".join([f"{called} was not built\n", *lines[-20:]]).rstrip(), LOST)
+    return str(program)
+
+
+def output(program, data, builder):
+    """What a program writes on these bytes; any word on standard error or a status other than 0 is a failure."""
+    try:
+        done = subprocess.run([program], input=data, capture_output=True, check=False)
+    except OSError as error:
+        raise Stop(f"{program}: {error.strerror}; {builder} builds it", LOST) from error
+    if done.stderr or done.returncode:
+        said = done.stderr.decode("utf-8", "replace").strip()
+        raise Stop(f"{program}: {said or f'ended with status {done.returncode}'}", LOST)
+    return done.stdout
 
 
 def run(call):

@@ -2,12 +2,11 @@
 import math
 import os
 import re
-import subprocess
 from fractions import Fraction
 
 from chain_text import is_text, looks_like_text, parse
-from command import LOST, REFUSED, Stop, content, tell
-from stored_chain import LONGEST_FILE, write
+from command import LOST, REFUSED, Stop, content, output, tell
+from stored_chain import LONGEST_FILE, cleaned, write
 
 REASONS = {
     1: "the number of states is 0 or above 64",
@@ -15,6 +14,8 @@ REASONS = {
     8: "the bytes end early",
     9: "row {0} has an entry at column {1}, which is its own row or no state",
     10: "bytes are left over after the last row",
+    14: "row {0}, column {1}: the entry from {2} to {3} has rate 0, as old files store an unused move; tools/chain clean OLD NEW leaves "
+        "such entries out",
 }
 WORD = 2**32  # a factor is 2^32 / (2^32 - 1)
 BAR = 40
@@ -24,7 +25,8 @@ LEFT = "left for good"  # in the place of a bar, for a state outside the closed 
 # ---- the chain and the names of its states
 
 def load(path, names_from=None):
-    """The stored bytes of a chain and the names of its states. Without a text that packs to these very bytes there are no names."""
+    """The stored bytes of a chain and the names of its states. Without a text that packs to these very bytes, once cleaned, there are no
+    names."""
     if is_text(path) and names_from is None:
         names, rows = parse(path)
         return write(rows), names
@@ -42,7 +44,7 @@ def load(path, names_from=None):
 
 def names_for(data, path, text):
     names, rows = parse(text)
-    if write(rows) != data:
+    if write(rows) != cleaned(data):
         raise Stop(f"{text} is not the text of {path}: packed, it gives other bytes")
     return names
 
@@ -52,8 +54,8 @@ def called(names, i):
 
 
 def reason(number, places, names=None):
-    if number == 6:
-        places = [f"state {i}" + (f" ({names[i]})" if names else "") for i in places]
+    states = [f"state {i}" + (f" ({names[i]})" if names else "") for i in places] if number in (6, 14) else []
+    places = states if number == 6 else [*places, *states]
     return REASONS.get(number, "a reason that this tool does not know").format(*places)
 
 
@@ -61,14 +63,7 @@ def reason(number, places, names=None):
 
 def answer(program, data):
     """What the printing program writes on these bytes."""
-    try:
-        done = subprocess.run([program], input=data, capture_output=True, check=False)
-    except OSError as error:
-        raise Stop(f"{program}: {error.strerror}; tools/solve builds it", LOST) from error
-    if done.stderr or done.returncode:
-        said = done.stderr.decode("utf-8", "replace").strip()
-        raise Stop(f"{program}: {said or f'ended with status {done.returncode}'}", LOST)
-    text = done.stdout.decode("ascii", "replace")
+    text = output(program, data, "tools/solve").decode("ascii", "replace")
     order = data[0] if data else 0
     if not re.fullmatch(rf"refused( \d+){{3}}\n|states {order} bound \d+\n(\d+( \d+ -?\d+){{2}}\n){{{order}}}", text):
         raise Stop(f"{program} wrote something else than its documented lines: {text[:80]!r}", LOST)

@@ -1,4 +1,4 @@
-"""Stored chains in Python: the chain that given bytes mean, and the bytes of a chain (docs/FORMAT.md).
+"""Stored chains in Python: the chain that given bytes mean, the bytes of a chain, and old files cleaned (docs/FORMAT.md).
 
 A chain is a list of rows, each a list of (column, rate) with columns rising. The order is the number of rows.
 """
@@ -20,8 +20,11 @@ def map_bytes(n):
     return (n + 7) // 8
 
 
-def read(data):
-    """The chain that the bytes describe; Refused by the first of 8, 1, 9 and 10 that applies, as they are met."""
+def read(data, zeros=False):
+    """The chain that the bytes describe; Refused by the first of 8, 1, 9, 14 and 10 that applies, as they are met.
+
+    With zeros these are the rules from before request R-5, without 14: an entry of rate 0 is taken and means no move.
+    """
     if not data:
         raise Refused(8)
     n = data[0]
@@ -37,20 +40,39 @@ def read(data):
         for j in columns:
             if j == i or j >= n:
                 raise Refused(9, i, j)
-        if len(data) < at + 4 * len(columns):
-            raise Refused(8)
-        rows.append([(j, int.from_bytes(data[at + 4 * p:at + 4 * p + 4], "little")) for p, j in enumerate(columns)])
-        at += 4 * len(columns)
+        row = []
+        for j in columns:
+            if len(data) < at + 4:
+                raise Refused(8)
+            rate = int.from_bytes(data[at:at + 4], "little")
+            at += 4
+            if rate == 0 and not zeros:
+                raise Refused(14, i, j)
+            row.append((j, rate))
+        rows.append(row)
     if at < len(data):
         raise Refused(10)
     return rows
 
 
 def write(rows):
-    """The bytes of a chain that keeps the rules 1 to 4."""
+    """The bytes of a chain that keeps the rules 1 to 4; rates of 0, which 14 refuses, are written as old files have them."""
     n = len(rows)
     parts = [bytes([n])]
     for row in rows:
         parts.append(sum(1 << j for j, _ in row).to_bytes(map_bytes(n), "little"))
         parts.extend(rate.to_bytes(4, "little") for _, rate in row)
     return b"".join(parts)
+
+
+def cleaned(data):
+    """What the cleaning program writes for these bytes (request R-5), as bytes.
+
+    They are read by the rules without 14. If those refuse, the refusal is all it writes; otherwise it is the file of the chain without
+    its entries of rate 0. No file begins with the letter r, 114, which is above every order.
+    """
+    try:
+        rows = read(data, zeros=True)
+    except Refused as refusal:
+        return f"{refusal}\n".encode("ascii")
+    return write([[(j, rate) for j, rate in row if rate > 0] for row in rows])

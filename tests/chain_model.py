@@ -1,6 +1,6 @@
-"""An independent model of chains in rows: refusals 1 to 4 and 6, the row look-up, the masks of the reached states and the closed sets.
+"""An independent model of chains in rows: refusals 1 to 4, 14 and 6, the row look-up, the masks of the reached states, the closed sets.
 
-It is written from document 01 and request R-3 alone, with a plain graph search, and shares no code with the crates. It generates
+It is written from document 01 and requests R-3 and R-5 alone, with a plain graph search, and shares no code with the crates. It generates
 the input of the program crates/chain_run, sound and broken chains, and the lines that the program has to print.
 """
 import random
@@ -10,7 +10,7 @@ LARGEST = 2**32 - 1
 
 
 def check(n, starts, columns, rates):
-    """None if the rules 1 to 4 hold, or the refusal's number and places."""
+    """None if the rules 1 to 4 and 14 hold, or the refusal's number and places."""
     if not 1 <= n <= 64:
         return 1, 0, 0
     if len(columns) != len(rates):
@@ -26,6 +26,10 @@ def check(n, starts, columns, rates):
             if column >= n or column == row or column <= seen:
                 return 4, row, place
             seen = column
+    for row in range(n):
+        for place in range(starts[row], starts[row + 1]):
+            if rates[place] == 0:
+                return 14, row, columns[place]
     return None
 
 
@@ -57,7 +61,9 @@ def closed_sets(sets):
     return [found[lowest] for lowest in sorted(found)]
 
 
-def line(n, row, starts, columns, rates):
+def line(call):
+    """What the program prints for a chain and the row that is looked up in it."""
+    n, row, starts, columns, rates = call
     refusal = check(n, starts, columns, rates)
     accepts = ["accepts", len(columns)]
     if refusal:
@@ -85,7 +91,7 @@ def rows_of(n, entries):
 
 
 def some_rate(rng):
-    return rng.choice([0, 1, 1, 1, 2, rng.randrange(1, 1000), LARGEST])
+    return rng.choice([1, 1, 1, 2, 256, 2**16, 2**24, rng.randrange(1, 1000), LARGEST])
 
 
 def ring_through(rng, entries, states):
@@ -97,12 +103,12 @@ def ring_through(rng, entries, states):
 
 
 def settled(rng, n, entries):
-    """Makes some states a closed set, to which the others lead: at most a rate of 0 leads out of it."""
+    """Makes some states a closed set, to which the others lead."""
     order = rng.sample(range(n), n)
     inside = order[:rng.randint(1, n)]
     for i, j in list(entries):
         if i in inside and j not in inside:
-            entries[i, j] = 0
+            del entries[i, j]
     ring_through(rng, entries, inside)
     for place in range(len(inside), n):
         entries[order[place], rng.choice(order[:place])] = rng.randrange(1, 9)
@@ -119,6 +125,9 @@ def some_chain(rng):
         ring_through(rng, entries, range(n))
     elif kind < 0.7:
         settled(rng, n, entries)
+    if entries and rng.random() < 0.25:
+        for entry in rng.sample(sorted(entries), min(len(entries), rng.choice((1, 1, 2, 9)))):
+            entries[entry] = 0
     return n, *rows_of(n, entries)
 
 
@@ -150,13 +159,35 @@ def damaged(rng, n, starts, columns, rates):
     return n, starts, columns, rates
 
 
+# request R-5: what checking says, worked out by hand, and the chain with the row that is looked up in it
+FULL_3 = [0, 2, 4, 6], [1, 2, 0, 2, 0, 1]
+ZERO_RATES = (
+    ((14, 0, 1), (2, 0, [0, 1, 2], [1, 0], [0, 5])),  # case 6
+    ((14, 2, 0), (3, 2, [0, 1, 2, 3], [1, 2, 0], [2, 4, 0])),
+    ((14, 1, 2), (3, 0, *FULL_3, [1, 1, 1, 0, 1, 1])),  # at place 3
+    ((14, 0, 2), (3, 1, *FULL_3, [1, 0, 0, 1, 1, 0])),  # the first of three
+    ((14, 0, 1), (2, 1, [0, 1, 2], [1, 0], [0, 0])),  # before 6
+    ((14, 63, 62), (64, 62, *rows_of(64, {(i, j): int(i < 63) for i in range(64) for j in range(64) if abs(i - j) == 1}))),
+    # 4 is tried over the whole chain before: in the last row, in the row of the zero, in row 9 with a zero in row 0
+    ((4, 2, 5), (3, 0, [0, 2, 4, 6], [1, 2, 0, 2, 0, 2], [0, 1, 1, 1, 1, 1])),
+    ((4, 0, 1), (3, 0, [0, 2, 2, 2], [1, 1], [0, 1])),
+    ((4, 0, 0), (3, 0, [0, 2, 2, 2], [0, 1], [1, 0])),
+    ((4, 9, 9), (10, 0, list(range(11)), [*range(1, 10), 10], [0, *[1] * 9])),
+    # so are 1, 2 and 3
+    ((1, 0, 0), (65, 0, [0, 1, 2], [1, 0], [0, 5])),
+    ((2, 0, 0), (2, 0, [0, 1, 2], [1, 0], [0])),
+    ((3, 0, 0), (2, 0, [0, 1, 1], [1, 0], [0, 5])),
+    (None, (2, 0, [0, 1, 2], [1, 0], [256, 2**16])),
+    (None, (2, 1, [0, 1, 2], [1, 0], [1, 2**24])),
+)
+
+
 def chains(rng):
-    # document 01's own: case 1, 2, 3, 4, 6, 7, its example of 6, which R-3 accepts, and its examples of 1 to 4
+    # document 01's own: case 1, 2, 3, 4, 7, its example of 6, which R-3 accepts, and its examples of 1 to 4
     yield 1, 0, [0, 0], [], []
     yield 2, 0, [0, 1, 2], [1, 0], [3, 1]
     yield 3, 1, [0, 1, 2, 3], [1, 2, 0], [2, 4, 8]
     yield 2, 1, [0, 1, 2], [1, 0], [1, LARGEST]
-    yield 2, 0, [0, 1, 2], [1, 0], [0, 5]
     yield 3, 2, [0, 1, 2, 3], [1, 0, 0], [1, 1, 1]
     yield 2, 0, [0, 1, 1], [1], [3]
     yield 65, 0, [0] * 66, [], []
@@ -169,9 +200,11 @@ def chains(rng):
     yield 64, 63, *rows_of(64, {(i, j): 1 for i in range(64) for j in range(64) if i != j})
     # request R-3: its example of 6; three closed sets, 1, then 2 and 4, then 3; 64 of them; one, the last of 64 states in a line
     yield 2, 1, [0, 0, 0], [], []
-    yield 5, 4, *rows_of(5, {(0, 2): 1, (0, 3): 2, (2, 4): 3, (4, 2): 4, (4, 0): 0})
+    yield 5, 4, *rows_of(5, {(0, 2): 1, (0, 3): 2, (2, 4): 3, (4, 2): 4})
     yield 64, 0, [0] * 65, [], []
     yield 64, 62, *rows_of(64, {(i, i + 1): 1 for i in range(63)})
+    for _, call in ZERO_RATES:
+        yield call
     for _ in range(200):
         chain = some_chain(rng)
         yield chain[0], rng.randrange(chain[0] + 2), *chain[1:]
@@ -186,6 +219,6 @@ def stored():
     for n, row, starts, columns, rates in chains(random.Random(1)):
         assert len(starts) <= 80 and len(columns) <= 4100 and len(rates) <= 4100
         words += [n, row, len(starts), *starts, len(columns), *columns, len(rates), *rates]
-        lines.append(line(n, row, starts, columns, rates))
+        lines.append(line((n, row, starts, columns, rates)))
     words = [len(lines), *words]
     return struct.pack(f"<{len(words)}I", *words), "".join(text + "\n" for text in lines).encode()

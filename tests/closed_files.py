@@ -1,4 +1,4 @@
-"""Fixed chains for request R-3, each with the text that the printing program writes for it, worked out by hand.
+"""Fixed chains for requests R-3 and R-5, each with the text that the printing program writes for it, worked out by hand.
 
 Where a number is not a power of two it is one of document 01's own, from case 2 or case 3.
 """
@@ -54,22 +54,14 @@ CHAINS = (
      answer(6, 8, {1: EVEN, 3: EVEN})),
     ("two states that lead to two others", 4, {**PAIR, (1, 2): 1, **moved(PAIR, (2, 3))}, answer(4, 8, {2: EVEN, 3: EVEN})),
     ("two states to which two others lead", 4, {**PAIR, (2, 1): 1, **moved(PAIR, (2, 3))}, answer(4, 8, {0: EVEN, 1: EVEN})),
-    ("rates of 0 lead out of the set", 4, {**moved(PAIR, (1, 2)), (0, 1): 4, (1, 0): 0, (2, 0): 0, (2, 3): 0, (3, 0): 4},
-     answer(4, 8, {1: EVEN, 2: EVEN})),
-    ("a rate of 0 between two states of the set", 3, {(0, 1): 2, (1, 2): 4, (2, 0): 8, (0, 2): 0}, answer(3, 28, dict(enumerate(RING)))),
-    ("the set is the first state", 3, {(1, 0): 3, (2, 1): 3, (0, 2): 0}, answer(3, 0, {0: SURE})),
     ("the set is the middle state", 3, {(0, 1): 3, (2, 0): 3}, answer(3, 0, {1: SURE})),
     ("the set is the last state", 3, {(0, 1): 3, (0, 2): 3, (1, 0): 3}, answer(3, 0, {2: SURE})),
     ("64 states, the set is the last", 64, line(64, 1), answer(64, 0, {63: SURE})),
     ("64 states, the set is the first", 64, line(64, -1), answer(64, 0, {0: SURE})),
-    ("64 states, the set is the ring of case 3", 64,
-     {**line(64, 1), (9, 10): 0, (33, 34): 0, (62, 61): 0, (62, 63): 0, (63, 8): 1, **moved(RING_OF_3, (9, 33, 62))},
-     answer(64, 28, dict(zip((9, 33, 62), RING)))),
     ("two sets, two states each", 4, {**PAIR, **moved(PAIR, (2, 3))}, refused(0, 2)),
     ("two sets, one within the other's numbers", 4, {**moved(PAIR, (0, 3)), **moved(PAIR, (1, 2))}, refused(0, 1)),
     ("two sets, one state before that leads into both", 4, {(0, 1): 1, (0, 3): 1, **moved(PAIR, (1, 2))}, refused(1, 3)),
     ("two sets, states outside lead into the second alone", 5, {(0, 4): 1, (1, 0): 1, (3, 1): 1}, refused(2, 4)),
-    ("a rate of 0 between two sets", 2, {(0, 1): 0, (1, 0): 0}, refused(0, 1)),
     ("three sets", 6, {(0, 5): 1, (4, 0): 1, **moved(PAIR, (1, 2))}, refused(1, 3)),
     ("three sets, the lowest has the highest state", 6, {(5, 0): 2, (0, 5): 3, (1, 2): 1, **moved(PAIR, (2, 4))}, refused(0, 2)),
     ("64 states, two sets of 32", 64, {(i, (i + 2) % 64): 1 for i in range(64)}, refused(0, 1)),
@@ -78,7 +70,34 @@ CHAINS = (
 )
 
 
+# name, order, moves, the first entry of rate 0 in row order, the text by the rules before request R-5, which is that of the cleaned file
+OLD_CHAINS = (
+    ("rates of 0 lead out of the set", 4, {**moved(PAIR, (1, 2)), (0, 1): 4, (1, 0): 0, (2, 0): 0, (2, 3): 0, (3, 0): 4}, (1, 0),
+     answer(4, 8, {1: EVEN, 2: EVEN})),
+    ("a rate of 0 between two states of the set", 3, {(0, 1): 2, (1, 2): 4, (2, 0): 8, (0, 2): 0}, (0, 2),
+     answer(3, 28, dict(enumerate(RING)))),
+    ("the set is the first state", 3, {(1, 0): 3, (2, 1): 3, (0, 2): 0}, (0, 2), answer(3, 0, {0: SURE})),
+    ("64 states, the set is the ring of case 3", 64,
+     {**line(64, 1), (9, 10): 0, (33, 34): 0, (62, 61): 0, (62, 63): 0, (63, 8): 1, **moved(RING_OF_3, (9, 33, 62))}, (9, 10),
+     answer(64, 28, dict(zip((9, 33, 62), RING)))),
+    ("a rate of 0 between two sets", 2, {(0, 1): 0, (1, 0): 0}, (0, 1), refused(0, 1)),
+)
+
+
+def stored(n, moves):
+    return write([[(j, moves[i, j]) for j in range(n) if (i, j) in moves] for i in range(n)])
+
+
+def old_files():
+    """The name, the bytes, the cleaned bytes, and the text of these."""
+    for name, n, moves, _, text in OLD_CHAINS:
+        yield name, stored(n, moves), stored(n, {move: rate for move, rate in moves.items() if rate}), text
+
+
 def files():
-    """The name, the bytes and the text of each."""
+    """The name, the bytes and the text of each; old chains as they are, which is 14, and cleaned."""
     for name, n, moves, text in CHAINS:
-        yield name, write([[(j, moves[i, j]) for j in range(n) if (i, j) in moves] for i in range(n)]), text
+        yield name, stored(n, moves), text
+    for (name, data, clean, text), (_, _, _, (row, column), _) in zip(old_files(), OLD_CHAINS):
+        yield name, data, f"refused 14 {row} {column}\n"
+        yield f"{name}, cleaned", clean, text

@@ -3,7 +3,8 @@
 It follows the sentences of document 01 one by one: the order of every sum, one quotient t(j) for each j of a step,
 entry + entry * t(j), the sum of the way back divided once, and shares by the total taken from state 0 up. Every rate and
 every result of an operation passes `within_range`. By request R-3 the states of the one closed set are solved as a chain of
-their own, in state order; the others get Zero.
+their own, in state order; the others get Zero. Until request R-5 a chain could hold entries of rate 0, which are no moves; `solve`
+still takes them, for `printed_with_zeros`, what the program wrote by the rules of that time.
 """
 from chain_model import closed_sets, reached, rows_of
 from scaled_model import ZERO, product_of, quotient_of, rate_of, sum_of
@@ -27,7 +28,7 @@ def closed_set(rows):
 
 
 def alone(rows, states):
-    """The chain of these states, numbered in their order. Out of a closed set only entries of rate 0 lead; they are left out."""
+    """The chain of these states, numbered in their order. At most entries of rate 0 lead out of a closed set; they are left out."""
     place = {state: at for at, state in enumerate(states)}
     return [[(place[j], rate) for j, rate in rows[i] if j in place] for i in states]
 
@@ -107,13 +108,18 @@ def solve(rows):
     return bound_count(len(states)), spread(n, states, weights), spread(n, states, shares)
 
 
-def printed(data):
+def printed(data, zeros=False):
     """What the printing program writes for these bytes on standard input."""
     try:
-        rows = read(data)
+        rows = read(data, zeros)
         count, weights, shares = solve(rows)
     except Refused as refusal:
         return f"{refusal}\n"
     lines = [f"states {len(rows)} bound {count}"]
     lines += [f"{i} {w[0]} {w[1]} {s[0]} {s[1]}" for i, (w, s) in enumerate(zip(weights, shares))]
     return "\n".join(lines) + "\n"
+
+
+def printed_with_zeros(data):
+    """What it wrote by the rules before request R-5, without 14: these shares are those of the cleaned file, bit for bit."""
+    return printed(data, zeros=True)

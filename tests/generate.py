@@ -1,6 +1,7 @@
-"""A seeded generator of stored chains, sound and damaged. File number i of seed s is the same on every machine.
+"""A seeded generator of stored chains, sound, old and damaged. File number i of seed s is the same on every machine.
 
-A sound chain has one closed set, of all states or of some, or several.
+A sound chain has one closed set, of all states or of some, or several. An old file is that of a sound chain with entries of rate 0
+(request R-5). A damaged file comes from either.
 """
 import math
 import random
@@ -33,6 +34,11 @@ def extreme_rates(rng, n):
     return chain_of(n, lambda i, j: rng.choice((1, 2, 2**31, TOP)))
 
 
+def rates_of_one_byte(rng, n):
+    """Of the four bytes of a rate one is not 0: 256, 65536, 16777216 and the like."""
+    return chain_of(n, lambda i, j: rng.choice((1, 1, rng.randint(1, 255))) << 8 * rng.randrange(4))
+
+
 def ring(rng, n):
     step = rng.choice((1, n - 1)) if n > 1 else 1
     return chain_of(n, lambda i, j: any_rate(rng) if j == (i + step) % n else None)
@@ -60,7 +66,7 @@ def birth_death(rng, n):
 
 
 # every state reaches every other
-CONNECTED = (dense, small_rates, extreme_rates, ring, sparse, nearly_decomposable, birth_death)
+CONNECTED = (dense, small_rates, extreme_rates, rates_of_one_byte, ring, sparse, nearly_decomposable, birth_death)
 
 
 def loose(rng, n):
@@ -70,9 +76,9 @@ def loose(rng, n):
 
 
 def one_way(rng, n):
-    """No positive rate from the second part back to the first, in a shuffled order of the states."""
+    """No move from the second part back to the first, in a shuffled order of the states."""
     part = [rng.random() < 0.5 for _ in range(n)]
-    return chain_of(n, lambda i, j: rng.choice((None, 0)) if part[i] and not part[j] else any_rate(rng))
+    return chain_of(n, lambda i, j: None if part[i] and not part[j] else any_rate(rng))
 
 
 # ---- request R-3: closed sets, and power-on states, from which every way leads into one
@@ -105,7 +111,7 @@ def on_the_way(rng, moves, inside, outside):
 
 
 def with_sets(rng, n, sets):
-    """A chain with these closed sets. In some chains entries of rate 0 lead out of them."""
+    """A chain with these closed sets."""
     moves = {}
     for states in sets:
         for i, row in zip(states, rng.choice(CONNECTED)(rng, len(states))):
@@ -113,9 +119,6 @@ def with_sets(rng, n, sets):
     inside = [i for states in sets for i in states]
     outside = rng.sample([i for i in range(n) if i not in inside], n - len(inside))
     on_the_way(rng, moves, inside, outside)
-    chance = rng.choice((0, 0, 0.1, 0.5))
-    for states in sets:
-        moves.update({(i, j): 0 for i in states for j in range(n) if j not in states and rng.random() < chance})
     return chain_of(n, lambda i, j: moves.get((i, j)))
 
 
@@ -139,13 +142,12 @@ def several_sets(rng, n):
 
 
 def no_moves(rng, n):
-    """No entries, or entries of rate 0 alone: each state is a closed set."""
-    chance = rng.choice((0, 0.5))
-    return chain_of(n, lambda i, j: 0 if rng.random() < chance else None)
+    """No entries: each state is a closed set."""
+    return chain_of(n, lambda i, j: None)
 
 
-# more than half have power-on states, so that of all files, with the damaged ones, a third have
-SHAPES = (*CONNECTED, *CONNECTED, loose, one_way, *[power_on] * 23, settles_in_one, several_sets, several_sets, no_moves)
+# three of four have power-on states, so that of all files, with the old and the damaged ones, a third are taken and have them
+SHAPES = (*CONNECTED, loose, one_way, *[power_on] * 40, *[settles_in_one] * 2, several_sets, several_sets, no_moves)
 
 
 def order(rng):
@@ -154,14 +156,41 @@ def order(rng):
     return rng.randint(1, top)
 
 
-def with_zero_rates(rng, rows):
-    chance = rng.choice((0.05, 0.3))
+def sound(rng, least=1):
+    return rng.choice(SHAPES)(rng, max(least, order(rng)))
+
+
+# ---- request R-5: entries of rate 0
+
+def zeros_added(rng, rows):
+    """Unused moves stored with rate 0, as the recorder did: no closed set changes."""
+    chance = rng.choice((0.05, 0.3, 0.3, 1))
+    return [sorted({**{j: 0 for j in range(len(rows)) if j != i and rng.random() < chance}, **dict(row)}.items())
+            for i, row in enumerate(rows)]
+
+
+def zeros_for_rates(rng, rows):
+    """Some rates become 0, or all."""
+    chance = rng.choice((0.05, 0.3, 0.3, 1))
     return [[(j, 0 if rng.random() < chance else rate) for j, rate in row] for row in rows]
 
 
-def sound(rng):
-    rows = rng.choice(SHAPES)(rng, order(rng))
-    return with_zero_rates(rng, rows) if rng.random() < 0.15 else rows
+def one_zero(rng, rows):
+    """At one place, with or without an entry before: the first or the last of all, or any."""
+    places = [(i, j) for i in range(len(rows)) for j in range(len(rows)) if i != j]
+    i, j = rng.choice((places[0], places[-1], rng.choice(places)))
+    return [sorted({**dict(row), j: 0}.items()) if i == at else row for at, row in enumerate(rows)]
+
+
+def with_zeros(rng, rows):
+    """The same chain of two states or more with entries of rate 0, one at least."""
+    made = rng.choice((zeros_added, zeros_added, zeros_added, zeros_for_rates, one_zero))(rng, rows)
+    return made if zero_places(made) else one_zero(rng, rows)
+
+
+def zero_places(rows):
+    """The entries of rate 0: the row, the column, and the place among the entries of the row."""
+    return [(i, j, place) for i, row in enumerate(rows) for place, (j, rate) in enumerate(row) if rate == 0]
 
 
 def map_places(rows):
@@ -179,6 +208,8 @@ def with_bits(data, rows, row, bits):
         data[map_places(rows)[row] + bit // 8] |= 1 << bit % 8
     return bytes(data)
 
+
+# ---- damages: each takes a chain and its file
 
 def cut(rng, rows, data):
     return data[:rng.randrange(len(data))]
@@ -242,9 +273,49 @@ DAMAGES = (cut, cut, cut, longer, own_bit, high_bit, high_bit, bad_bit_then_cut,
            random_bytes, overlong, empty)
 
 
+# ---- damages of an old file, near an entry of rate 0
+
+def zero_bytes(rng, rows):
+    """Where some rate of 0 stands in the file, and where its row ends."""
+    i, _, place = rng.choice(zero_places(rows))
+    first = map_places(rows)[i] + map_bytes(len(rows))
+    return first + 4 * place, first + 4 * len(rows[i])
+
+
+def cut_after_zero(rng, rows, data):
+    """The zero rate is read before the end, in the same row or right behind it."""
+    at, end = zero_bytes(rng, rows)
+    return data[:rng.randint(at + 4, max(at + 4, end - 1))]
+
+
+def cut_within_zero(rng, rows, data):
+    """Of the zero rate one to three bytes are left, or none."""
+    return data[:zero_bytes(rng, rows)[0] + rng.choice((0, 1, 2, 3, 3, 3))]
+
+
+def bit_in_its_row(rng, rows, data):
+    """A bad bit in the map before the zero rate."""
+    n, (i, _, _) = len(rows), rng.choice(zero_places(rows))
+    return with_bits(data, rows, i, [rng.choice((i, *range(n, 8 * map_bytes(n))))])
+
+
+def bit_in_a_later_row(rng, rows, data):
+    """A bad bit in a map behind the zero rate, or in its own if that is the last."""
+    i = min(rng.choice(zero_places(rows))[0] + 1, len(rows) - 1)
+    row = rng.randint(i, len(rows) - 1)
+    return with_bits(data, rows, row, [row])
+
+
+OLD_DAMAGES = (cut_after_zero, cut_after_zero, cut_within_zero, cut_within_zero, bit_in_its_row, bit_in_its_row, bit_in_a_later_row,
+               bit_in_a_later_row, longer, longer)
+
+
 def stored(seed, index):
-    """The bytes of file number index: about seven of ten sound."""
+    """The bytes of file number index: of ten about five sound, three old, two damaged, half of these from old ones."""
     rng = random.Random(f"{seed}/{index}")
-    rows = sound(rng)
+    kind = rng.choices(("sound", "old", "damaged", "damaged old"), (51, 31, 9, 9))[0]
+    rows = with_zeros(rng, sound(rng, least=2)) if "old" in kind else sound(rng)
     data = write(rows)
-    return data if rng.random() < 0.7 else rng.choice(DAMAGES)(rng, rows, data)
+    if kind == "damaged old":
+        return rng.choice((*OLD_DAMAGES, *DAMAGES[:8]))(rng, rows, data)
+    return rng.choice(DAMAGES)(rng, rows, data) if kind == "damaged" else data

@@ -72,7 +72,7 @@ def chain_rows(call):
 
 
 def solved(call):
-    """The bound count and what the needed places of the eight slices hold; Refused by the first of 1, 2, 3, 4, 13, 12, 11, 5, 6."""
+    """The bound count and what the needed places of the eight slices hold; Refused by the first of 1, 2, 3, 4, 14, 13, 12, 11, 5, 6."""
     n = call.n
     refusal = check(n, call.starts, call.columns, call.rates)
     if refusal:

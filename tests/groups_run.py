@@ -1,19 +1,18 @@
 """The seeded calls for crates/groups_run, sound and broken, each after its length in two bytes, low byte first, and the lines that the
 program has to print for them, from groups_model.py. Call number i of seed s is the same on every machine.
 
-The first calls are the edges of requests R-1 and R-3, each with its verdict worked out by hand (`EDGES`), and bytes that are just no
+The first calls are the edges of requests R-1, R-3 and R-5, each with its verdict worked out by hand (`EDGES`), and bytes that are just no
 call; the rest are drawn by chance.
 """
 import random
 
 from chain_model import damaged
-from generate import CONNECTED, SHAPES, TOP, chain_of, dense, nearly_decomposable, no_moves, order, ring, small_rates, sparse, with_sets
-from generate import with_zero_rates
+from generate import CONNECTED, SHAPES, TOP, chain_of, dense, nearly_decomposable, no_moves, order, ring, small_rates, sparse, with_sets, with_zeros
 from groups_model import Call, packed, places_needed, told
 from worked import all_ones
 
 SEED, COUNT = 1, 400  # of the stored input
-ORDER = (1, 2, 3, 4, 13, 12, 11, 5, 6)  # in which the refusals are tried
+ORDER = (1, 2, 3, 4, 14, 13, 12, 11, 5, 6)  # in which the refusals are tried
 RING = [[(1, 2)], [(2, 4)], [(0, 8)]]  # case 3 of document 01
 
 
@@ -160,7 +159,7 @@ def one_less(lent, at):
 def some_call(rng):
     n = order(rng)
     rows = rng.choice(SHAPES)(rng, n) if rng.random() < 0.7 else connected(rng, n)
-    rows = with_zero_rates(rng, rows) if rng.random() < 0.1 else rows
+    rows = with_zeros(rng, rows) if n > 1 and rng.random() < 0.15 else rows
     call = call_of(rows, some_table(rng, n), some_lent(rng, n))
     if rng.random() < 0.1:
         return call._replace(**dict(zip(("n", "starts", "columns", "rates"), damaged(rng, *call[:4]))))
@@ -258,7 +257,7 @@ def with_closed(n, sets, table, lent=None):
 def set_edges():
     """Request R-3: states outside the closed set, in groups of their own and with others; as many places are needed as for all states."""
     seven = places_needed(7)
-    yield "accepted 0", lambda rng: call_of([[(1, 0)], [(0, 5)]], [0, 0, 1, 1, 1, 2])  # case 6
+    yield "accepted 0", lambda rng: call_of([[], [(0, 5)]], [0, 0, 1, 1, 1, 2])  # case 6, cleaned
     yield "accepted 8", lambda rng: call_of([[(1, 1)], [(0, 1)], [(0, 1)]], [0, 0, 1, 1, 2, 2])  # case 7
     yield accepted(3), with_closed(7, [[0, 1, 2]], [0, 2, 5, 3, 6, 6])  # the last four in a group of their own
     yield accepted(3), with_closed(7, [[4, 5, 6]], [0, 3, 6, 4, 6, 5])  # the first four
@@ -313,19 +312,34 @@ def lent_edges():
     yield "refused 5 0 0", with_table(7, [0, 6, 2], (0,) * 8)
 
 
-# for each refusal a change of a sound call of five states that brings it about; for 6 two states are left by no move
+def zero_edges():
+    """Request R-5: a rate of 0 is 14, with row and column, after 4 over the whole chain and before the table, the lent places and 6."""
+    yield "refused 14 0 1", lambda rng: call_of([[(1, 0)], [(0, 5)]], [0, 0, 1, 1, 1, 2])  # case 6
+    yield "refused 14 0 1", lambda rng: call_of([[(1, 0)], [(0, 0)]], [0, 1, 0])  # two closed sets too
+    yield "refused 14 2 0", lambda rng: call_of([[(1, 2)], [(2, 4)], [(0, 0)]], [0, 2, 16])
+    yield "refused 14 1 3", lambda rng: call_of([[(1, 2)], [(2, 1), (3, 0), (4, 0)], [(3, 1)], [(4, 0)], [(0, 8)]], [0, 4, 1], (0,) * 8)
+    yield "refused 14 63 62", lambda rng: call_of([*all_ones()[:63], [(62, 0)]], [0, 63, 2])
+    yield "refused 14 0 1", lambda rng: call_of([[(j, 0) for j in range(64) if j != i] for i in range(64)], [])
+    yield "refused 4 9 9", lambda rng: call_of([[(1, 0)], *([(i + 1, 1)] for i in range(1, 10))], [])  # a zero rate in row 0
+    yield "refused 4 0 1", lambda rng: call_of([[(1, 0), (1, 1)], []], [0, 1, 0])
+    for rate in (256, 2**16, 2**24):
+        yield accepted(2), lambda rng, rate=rate: call_of([[(1, rate)], [(0, rate)]], [0, 1, 0])
+
+
+# for each refusal a change of a sound call of five states that brings it about; for 6 no move leads from the last two states
 FAULTS = {
     1: lambda call: call._replace(n=65),
     2: lambda call: call._replace(rates=call.rates[:-1]),
     3: lambda call: call._replace(starts=[1, *call.starts[1:]]),
     4: lambda call: call._replace(columns=[0, *call.columns[1:]]),
+    14: lambda call: call._replace(rates=[*call.rates[:5], 0, *call.rates[6:]]),
     13: lambda call: call._replace(table=[4, 4, 16] + call.table),
     12: lambda call: call._replace(table=call.table + [1, 1, 3]),
     11: lambda call: call._replace(table=call.table[3:]),
     5: lambda call: call._replace(lent=one_less(call.lent, 6)),
-    6: lambda call: call._replace(rates=[0] * call.starts[2] + call.rates[call.starts[2]:]),
+    6: lambda call: call._replace(starts=[*call.starts[:4], 12, 12], columns=call.columns[:12], rates=call.rates[:12]),
 }
-PLACES = {6: (0, 1), 12: (1, 0)}
+PLACES = {6: (3, 4), 12: (1, 0), 14: (1, 2)}
 
 
 def sound_five(rng):
@@ -359,7 +373,7 @@ def frame_edges():
     yield "refused 1 0 0", lambda rng: bytes(52)
 
 
-EDGES = (*table_edges(), *set_edges(), *sum_edges(), *lent_edges(), *fault_edges(), *frame_edges())
+EDGES = (*table_edges(), *set_edges(), *zero_edges(), *sum_edges(), *lent_edges(), *fault_edges(), *frame_edges())
 
 
 # ---- the input

@@ -11,16 +11,17 @@ from types import SimpleNamespace
 import closed_files
 import scaled_checks
 import worked
-from chain_model import closed_sets, reached, rows_of
-from elimination_model import bound_count, eliminate, printed
+import zero_checks
+from chain_model import chains, closed_sets, line, reached, rows_of
+from elimination_model import bound_count, eliminate, printed, printed_with_zeros
 from exact_solver import FACTOR, at_most_times, balanced_lists, closed_components, exact_problem, exact_weights, taken_alone
 from exact_solver import weights_by_minors, weights_by_trees
-from generate import sound, stored
+from generate import sound, stored, with_zeros
 from groups_model import GROUPS, HELD, outcome, packed, places_needed, told
 from groups_run import EDGES, ORDER, call_bytes, call_of
 from scaled_model import ZERO, rate_of, value
 from shares_view import guaranteed, relative, rounded
-from stored_chain import Refused, read, write
+from stored_chain import Refused, cleaned, read, write
 
 ROOT = Path(__file__).resolve().parent.parent
 
@@ -38,7 +39,7 @@ def worked_cases():
     lines = printed(write(worked.all_ones())).splitlines()
     assert lines[0] == "states 64 bound 182784" and len(lines) == 65
     return (f"{len(worked.PRINTED)} printed cases, exact weights of {len(worked.EXACT_WEIGHTS)}, rate 3, K, case 10, "
-            f"{len(closed_files.CHAINS)} fixed files of R-3")
+            f"{len(list(closed_files.files()))} fixed files of R-3 and R-5")
 
 
 def same_by_trees(rows):
@@ -76,11 +77,13 @@ def by_definition(n, sets):
 
 
 def closed_by_all_means(rng, many=2000, most=12):
-    """The closed sets from what is reached, as components, and by their number in the balance; up to 7 states over all sets of states."""
+    """The closed sets from what is reached, as components, and by their number in the balance; up to 7 states over all sets of states.
+    Some chains have entries of rate 0, which are no moves by the rules before request R-5."""
     numbers, searched = set(), 0
     for _ in range(many):
         rows = sound(rng)
         n = len(rows)
+        rows = with_zeros(rng, rows) if n > 1 and rng.random() < 0.25 else rows
         sets = reached(n, *rows_of(n, {(i, j): rate for i, row in enumerate(rows) for j, rate in row}))
         closed = closed_sets(sets)
         assert closed == closed_components(rows), rows
@@ -107,13 +110,16 @@ def factors():
 
 def round_trip(rng, many=200):
     for _ in range(many):
-        rows = sound(rng)
+        rows = sound(rng, least=2)
         assert read(write(rows)) == rows
-    return f"{many} chains written and read"
+        old = with_zeros(rng, rows)
+        assert read(write(old), zeros=True) == old
+    return f"{many} chains written and read, and as many with zero rates by the rules before 14"
 
 
 def examples():
-    """Every text among the examples is the source of the stored chain beside it, and unpacking gives the same chain again."""
+    """Every text among the examples is the source of the stored chain beside it, of an old one once cleaned, and unpacking gives the same
+    chain again."""
     many = 0
     for text in sorted((ROOT / "examples").glob("*.txt")):
         chain = text.with_suffix(".chain")
@@ -121,14 +127,16 @@ def examples():
             again, packed = Path(folder, "again.txt"), Path(folder, "packed.chain")
             for source in (text, again):
                 subprocess.run([ROOT / "tools" / "chain", "pack", source, packed], check=True, stdout=subprocess.DEVNULL)
-                assert packed.read_bytes() == chain.read_bytes(), text.name
+                assert packed.read_bytes() == cleaned(chain.read_bytes()), text.name
                 subprocess.run([ROOT / "tools" / "chain", "unpack", packed, again, "--names", text], check=True)
         many += 1
-    return f"{many} example texts packed and unpacked"
+    old, clean = (ROOT.joinpath("examples", f"{name}.chain").read_bytes() for name in ("no-way-back", "no-way-back-cleaned"))
+    assert cleaned(old) == clean != old
+    return f"{many} example texts packed and unpacked, and the old example cleaned"
 
 
 def has_states_outside(data):
-    """Whether these bytes are a chain with one closed set and states outside it."""
+    """Whether these bytes are a chain, without zero rates, with one closed set and states outside it."""
     try:
         rows = read(data)
     except Refused:
@@ -144,7 +152,7 @@ def power_on_files(seed=1, most=2000):
     return f"{many} of the first {most} files of seed {seed} have one closed set and states outside it, a third at least"
 
 
-def digits(seed=1, most=200):
+def digits(seed=1, most=300):
     """The digits that tools/chain shows for a computed share are the exact share's own, correctly rounded."""
     states = 0
     for data in (stored(seed, i) for i in range(most)):
@@ -171,11 +179,11 @@ SLIPS = (
     ("over(total_of(times(weights[j], a[j][k]) for j in range(k + 1, n)), pivots[k])",
      "total_of(over(times(weights[j], a[j][k]), pivots[k]) for j in range(k + 1, n))", "each term divided on the way back"),
     ("over(w, total) for w in weights", "w for w in weights", "shares not divided by the total"),
-    ("for j in columns:", "for j in reversed(columns):", "9 names the highest bit"),
+    ("for j in columns:\n            if j == i", "for j in reversed(columns):\n            if j == i", "9 names the highest bit"),
     ("if j == i or j >= n:", "if j == i:", "bits at n and above let through"),
     ("if at < len(data):", "if False:", "bytes left over let through"),
     ("if not 1 <= n <= MOST_STATES:", "if not 1 <= n <= 255:", "order 65 let through"),
-    ('"little")) for p', '"big")) for p', "rates high byte first"),
+    ('at:at + 4], "little")', 'at:at + 4], "big")', "rates high byte first"),
     ("nearest((a[0] << (a[1] - e)) + (b[0] << (b[1] - e)), 1, e, bits)",
      "nearest((a[0] >> (max(a[1], b[1]) - a[1])) + (b[0] >> (max(a[1], b[1]) - b[1])), 1, max(a[1], b[1]), bits)",
      "operands shortened before adding"),
@@ -189,7 +197,6 @@ SLIPS = (
 
 # Slips of request R-3, as edits of the models' text.
 CLOSED_SLIPS = (
-    ("if rates[p] > 0]", "]", "a stored zero rate taken as a move"),
     ("all(sets[j] == own for j in own)", "all(sets[j] <= own for j in own)", "moves followed one way only: no way back asked"),
     ("all(sets[j] == own for j in own)", "all(min(sets[j]) == min(own) for j in own)", "the way back asked of the lowest state alone"),
     ("closed_sets(sets)\n    if", "closed_sets([{i for i in range(n) if j in sets[i]} for j in range(n)])\n    if", "moves followed backwards"),
@@ -210,8 +217,10 @@ CLOSED_SLIPS = (
     ("spread(n, states, shares)", "spread(n, states[::-1], shares)", "the set's shares put falling"),
 )
 
+# A slip that document 01 names, and that only the rules before request R-5 can show.
+ZERO_SLIP = ("if rates[p] > 0]", "]", "a stored zero rate taken as a move")
 
-# Slips of request R-1, as edits of its model's text; the last two are of request R-3.
+# Slips of request R-1, as edits of its model's text; the last three are of requests R-3 and R-5.
 GROUP_SLIPS = (
     ("total_of(shares[state] for state in states_of(table, group))",
      "total_of(shares[state] for state in reversed(states_of(table, group)))", "a group summed falling"),
@@ -222,6 +231,9 @@ GROUP_SLIPS = (
     ("Refused(13, min(bad))", "Refused(13, max(bad))", "13 names the last bad row"),
     ("[(0, 0)] * (n * n)", "[(0, 0)] * sum(w != ZERO for w in weights) ** 2", "the work places of the set alone cleared"),
     ("zip(call.lent, places_needed(n))", "zip(call.lent, places_needed(len(closed_set(chain_rows(call)))))", "room for the set alone suffices"),
+    ("    if refusal:\n        raise Refused(*refusal)\n    check_table(n, call.table)\n",
+     "    if refusal and refusal[0] != 14:\n        raise Refused(*refusal)\n    check_table(n, call.table)\n"
+     "    if refusal:\n        raise Refused(*refusal)\n", "14 tried after the table"),
 )
 PRINTING = ("tests/scaled_model", "tests/chain_model", "python/stored_chain", "tests/elimination_model")
 
@@ -255,6 +267,20 @@ def slips(seed=1, most=400):
     all_told_apart(all_slips, PRINTING, printed, files)
     all_told_apart(CLOSED_SLIPS, PRINTING, printed, [data for _, data, _ in closed_files.files()])
     return f"{len(all_slips)} slips, each told apart by the first {most} files of seed {seed}, those of R-3 by its fixed files too"
+
+
+def zero_slips(seed=1, most=400):
+    """Slips of request R-5, each told apart by generated files, by the cases worked out by hand, and in memory by crates/chain_run's input."""
+    files, by_hand = [stored(seed, i) for i in range(most)], [bytes.fromhex(digits) for _, digits, _ in worked.PRINTED]
+    for inputs in (files, by_hand):
+        all_told_apart(zero_checks.READ_SLIPS, PRINTING, printed, inputs)
+    for inputs in (files, [bytes.fromhex(digits) for _, digits, _ in worked.CLEANED]):
+        all_told_apart(zero_checks.CLEAN_SLIPS, PRINTING, cleaned, inputs)
+    for inputs in (files, [data for _, data, _, _ in closed_files.old_files()]):
+        all_told_apart([ZERO_SLIP], PRINTING, printed_with_zeros, inputs)
+    all_told_apart(zero_checks.CHECK_SLIPS, ("tests/chain_model",), line, list(chains(random.Random(1))))
+    many = sum(map(len, (zero_checks.READ_SLIPS, zero_checks.CLEAN_SLIPS, zero_checks.CHECK_SLIPS))) + 1
+    return f"{many} slips of zero rates and cleaning, each told apart by generated files and by those worked out by hand"
 
 
 def finds(check, model):
@@ -303,7 +329,8 @@ def main():
     rng = random.Random(1)
     parts = (worked_cases, lambda: scaled_checks.operations(rng), scaled_checks.short_words, scaled_checks.ends,
              rounding_slips, no_number, lambda: exact_solvers(rng), lambda: closed_by_all_means(rng), factors,
-             lambda: round_trip(rng), examples, power_on_files, digits, slips, group_cases, group_slips)
+             lambda: round_trip(rng), examples, power_on_files, digits, slips, zero_checks.worked_cases, zero_checks.promises,
+             zero_checks.zero_files, zero_slips, group_cases, group_slips)
     for part in parts:
         try:
             print("ok:", part())

@@ -2,7 +2,7 @@
 
 shares reads the longest file and one byte more: that it is refused by 10 shows that the program reads one byte beyond the longest
 file. shares_run reads the chains worked on paper that have a file, a file for each refusal that a file can cause, the fixed files of
-request R-3 and the examples, each after its length in two bytes, low byte first.
+requests R-3 and R-5 and the examples, each after its length in two bytes, low byte first.
 """
 from pathlib import Path
 
@@ -12,7 +12,7 @@ from stored_chain import write
 from worked import PRINTED, all_ones
 
 ROOT = Path(__file__).resolve().parent.parent
-# more of each refusal but 6: 1 (order byte above 64), 8 (rates cut short), 9 (a bit at n), 10 (after case 2)
+# more of each refusal but 6 and 14: 1 (order byte above 64), 8 (rates cut short), 9 (a bit at n), 10 (after case 2)
 REFUSED = ("ff", "02 02 03000000 01 010000", "02 06 03000000 05000000 00", "02 02 03000000 01 01000000 07")
 
 
@@ -43,5 +43,5 @@ def stored():
     made = list(files())
     texts = [printed(data) for data in made]
     numbers = {int(text.split()[1]) for text in texts if text.startswith("refused")}
-    assert numbers == {1, 6, 8, 9, 10}
+    assert numbers == {1, 6, 8, 9, 10, 14}
     return b"".join(len(data).to_bytes(2, "little") + data for data in made), "".join(texts).encode()

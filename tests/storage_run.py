@@ -6,7 +6,11 @@ from stored_chain import LONGEST_FILE, Refused, map_bytes, read, write
 
 SEED = 20261115
 ORDERS = [1, 2, 3, 4, 5, 7, 8, 9, 10, 15, 16, 17]
-RATES = [0, 1, 3, 255, 256, 65536, 2**31, 2**32 - 1]
+RATES = [1, 3, 255, 256, 65536, 2**24, 2**31, 2**32 - 1]
+# request R-5: a zero rate before and behind every other fault, and rates with zero bytes
+ZERO_RATES = ["0202000000000105000000", "02020000000001050000", "0202000000", "020200000000", "0202000000000205000000", "02030000000000000000",
+              "02060000000005000000", "0201050000000100000000", "020205000000010000000000", "030607000000000000000500000000",
+              "0306000000000700", "0306070000000000", "0306070000000000000000", "0202000100000100000100", "0202000000010100000080"]
 
 
 def line(data, starts, columns, rates, out):
@@ -29,10 +33,11 @@ def lines(data):
 
 
 def some_chain(rng, n):
-    density = rng.choice([0, 0.1, 0.3, 0.7, 1])
+    """About a third have rates of 0."""
+    density, zeros = rng.choice([0, 0.1, 0.3, 0.7, 1]), rng.choice([0, 0, 0.1])
 
     def rate():
-        return rng.choice(RATES + [rng.randrange(2**32)])
+        return 0 if rng.random() < zeros else rng.choice(RATES + [rng.randrange(1, 2**32)])
 
     return [[(j, rate()) for j in range(n) if j != i and rng.random() < density] for i in range(n)]
 
@@ -49,7 +54,7 @@ def with_bit(rng, rows):
 
 
 def files(rng):
-    for text in ["0202030000000101000000", "", "00", "41", "ff", "40", "0101", "010000", "0100", "020203", "02", "0202"]:
+    for text in ["0202030000000101000000", "", "00", "41", "ff", "40", "0101", "010000", "0100", "020203", "02", "0202", *ZERO_RATES]:
         yield bytes.fromhex(text)
     full = write([[(j, 1) for j in range(64) if j != i] for i in range(64)])
     assert len(full) == LONGEST_FILE
@@ -58,7 +63,7 @@ def files(rng):
         n = ORDERS[turn % len(ORDERS)] if turn < 84 else rng.choice([24, 25, 33, 63, 64])
         rows = some_chain(rng, n)
         data = write(rows)
-        assert read(data) == rows
+        assert read(data, zeros=True) == rows
         yield data
         yield data[: rng.randrange(len(data))]
         yield data + bytes([rng.randrange(256)])

@@ -11,9 +11,9 @@
 //! # Ok::<(), stall::Refusal>(())
 //! ```
 //!
-//! A non-empty set of states is closed if each of them reaches all the others of the set, over rates above 0, and nothing outside
-//! it. A chain has an answer if it has exactly one closed set. States outside, such as those met only after power-on, are left for
-//! good: their weights and shares are Zero.
+//! A non-empty set of states is closed if each of them reaches all the others of the set and nothing outside it. A chain has an
+//! answer if it has exactly one closed set. States outside, such as those met only after power-on, are left for good: their weights
+//! and shares are Zero.
 //!
 //! ```
 //! // 0 to 1, 1 to 0 and 2 to 0, all rate 1: state 2 is left once and never met again.
@@ -22,6 +22,15 @@
 //! assert_eq!(shares[0].to_f64(), 0.5);
 //! assert!(shares[2].is_zero());
 //! # Ok::<(), stall::Refusal>(())
+//! ```
+//!
+//! A chain has no rate of 0: where there is no move there is no entry. Old stored chains with such entries are refused by 14; the
+//! program `clean` rewrites them without.
+//!
+//! ```
+//! // 0 to 1 rate 0, 1 to 0 rate 5.
+//! let refusal = stall::read(&[2, 2, 0, 0, 0, 0, 1, 5, 0, 0, 0]).unwrap_err();
+//! assert_eq!(refusal.to_string(), "refused 14 0 1");
 //! ```
 mod refusal;
 mod scaled;
@@ -48,7 +57,7 @@ pub struct Chain {
     pub starts: Vec<u32>,
     /// Within a row these rise strictly, are below the order and never equal the row.
     pub columns: Vec<u32>,
-    /// One for each column. A rate of 0 is an entry that means no move.
+    /// One for each column, each above 0.
     pub rates: Vec<u32>,
 }
 
@@ -133,7 +142,7 @@ impl Lent {
     }
 }
 
-/// Solves a chain: its weights and shares, or the first refusal of 1 to 6.
+/// Solves a chain: its weights and shares, or the first refusal of 1, 2, 3, 4, 14 and 6, in this order.
 pub fn solve(chain: &Chain) -> Result<Solution, Refusal> {
     let mut lent = Lent::new(chain.order);
     // SAFETY: each pointer and length are those of one live slice; the mutable ones are different vectors and one array.
@@ -165,7 +174,7 @@ pub fn solve(chain: &Chain) -> Result<Solution, Refusal> {
     lent.solution(number)
 }
 
-/// Solves a chain and sums its shares by group, or gives the first refusal of 1, 2, 3, 4, 13, 12, 11 and 6, in this order.
+/// Solves a chain and sums its shares by group, or gives the first refusal of 1, 2, 3, 4, 14, 13, 12, 11 and 6, in this order.
 ///
 /// A row of the table is a first state, a last state, and the group, 0 to 15, of all states from the first to the last. Each state
 /// is in one row; the rows stand in any order.
@@ -220,7 +229,7 @@ pub fn solve_groups(chain: &Chain, table: &[[u32; 3]]) -> Result<GroupSolution, 
     })
 }
 
-/// Reads a stored chain, or gives the first refusal of its bytes.
+/// Reads a stored chain, or gives the first refusal of its bytes: 8, 1, 9, 14 and 10 as they are met.
 pub fn read(bytes: &[u8]) -> Result<Chain, Refusal> {
     let mut starts = vec![0u32; MAX_ORDER + 1];
     let (mut columns, mut rates) = (vec![0u32; MAX_ENTRIES], vec![0u32; MAX_ENTRIES]);
@@ -255,7 +264,7 @@ pub fn read(bytes: &[u8]) -> Result<Chain, Refusal> {
     })
 }
 
-/// Stores a chain, or gives the first refusal of 1 to 4. A chain with several closed sets, which solving refuses by 6, is stored too.
+/// Stores a chain, or gives the first refusal of 1, 2, 3, 4 and 14, in this order. A chain with several closed sets, which solving refuses by 6, is stored too.
 pub fn write(chain: &Chain) -> Result<Vec<u8>, Refusal> {
     let mut out = vec![0u8; MAX_BYTES];
     let mut answer = [0usize; 3];

@@ -24,6 +24,8 @@ pub enum ChainReason {
     /// 13: a row of the group table is cut short, has a first state above its last, a state of the order or more, or a group above
     /// 15; this is the lowest.
     TableRow { row: usize },
+    /// 14: a rate is 0, first at this entry.
+    ZeroRate { row: usize, column: usize },
 }
 
 /// Why stored bytes are turned away.
@@ -39,6 +41,8 @@ pub enum BytesReason {
     Bit { row: usize, bit: usize },
     /// 10: bytes are left over.
     Extra,
+    /// 14: a rate is 0, first at this entry.
+    ZeroRate { row: usize, column: usize },
 }
 
 /// A refusal.
@@ -49,7 +53,7 @@ pub enum Refusal {
 }
 
 impl Refusal {
-    /// The refusal's number: 1 to 6, or 8 to 13.
+    /// The refusal's number: 1 to 6, or 8 to 14.
     pub fn number(self) -> u32 {
         match self {
             Refusal::Chain(reason) => match reason {
@@ -62,6 +66,7 @@ impl Refusal {
                 ChainReason::InNoRow { .. } => 11,
                 ChainReason::InTwoRows { .. } => 12,
                 ChainReason::TableRow { .. } => 13,
+                ChainReason::ZeroRate { .. } => 14,
             },
             Refusal::Bytes(reason) => match reason {
                 BytesReason::Order => 1,
@@ -69,6 +74,7 @@ impl Refusal {
                 BytesReason::Short => 8,
                 BytesReason::Bit { .. } => 9,
                 BytesReason::Extra => 10,
+                BytesReason::ZeroRate { .. } => 14,
             },
         }
     }
@@ -82,6 +88,8 @@ impl Refusal {
                 (state, 0)
             }
             Refusal::Chain(ChainReason::TableRow { row }) => (row, 0),
+            Refusal::Chain(ChainReason::ZeroRate { row, column })
+            | Refusal::Bytes(BytesReason::ZeroRate { row, column }) => (row, column),
             Refusal::Bytes(BytesReason::Bit { row, bit }) => (row, bit),
             _ => (0, 0),
         }
@@ -103,6 +111,10 @@ impl Refusal {
             (0, 11) => Refusal::Chain(ChainReason::InNoRow { state: first }),
             (0, 12) => Refusal::Chain(ChainReason::InTwoRows { state: first }),
             (0, 13) => Refusal::Chain(ChainReason::TableRow { row: first }),
+            (0, 14) => Refusal::Chain(ChainReason::ZeroRate {
+                row: first,
+                column: second,
+            }),
             (1, 1) => Refusal::Bytes(BytesReason::Order),
             (1, 5) => Refusal::Bytes(BytesReason::Room),
             (1, 8) => Refusal::Bytes(BytesReason::Short),
@@ -111,6 +123,10 @@ impl Refusal {
                 bit: second,
             }),
             (1, 10) => Refusal::Bytes(BytesReason::Extra),
+            (1, 14) => Refusal::Bytes(BytesReason::ZeroRate {
+                row: first,
+                column: second,
+            }),
             _ => unreachable!("the library's contract has no refusal {number} of side {side}"),
         }
     }

@@ -147,7 +147,7 @@ fn tables_refused() {
     );
     assert_eq!(table(&[]), ChainReason::InNoRow { state: 0 });
     // The chain's rules come before the table, the table before 6.
-    let apart = chain(2, &[(0, 1, 0)]);
+    let apart = chain(2, &[]);
     assert_eq!(
         refused_table(&apart, &[[0, 0, 0]]),
         ChainReason::InNoRow { state: 1 }

@@ -70,7 +70,7 @@ module _ {c : Rows} (s : Sound c) (i : ℕ) (l : i < c .order) where
       rw q (omega (arith, column-rise d place a (omega arith), column-next (place + d + 1) (omega arith) (omega arith)))
 
   -- so a row has at most one entry at a column
-  column-less : (p q : ℕ) → begins c i ≤ p → p < q → q < ends c i → columnAt c p < columnAt c q
+  pub column-less : (p q : ℕ) → begins c i ≤ p → p < q → q < ends c i → columnAt c p < columnAt c q
   column-less p q a b z =
       let e : p + (q - p - 1) + 1 ≡ q = omega arith in
       rw e at (column-rise (q - p - 1) p a (omega arith))

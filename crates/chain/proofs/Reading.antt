@@ -6,15 +6,23 @@ use native.Mathlib.Omega.{arith}
 use lib.Dec.{eqb, ltb}
 use lib.ListN.{length}
 use borrow.Author.Tests.{eqb-true, eqb-false, ltb-true, ltb-false, eq-eqb, ne-eqb}
-use Rattle.refusal.specs.Table.{Verdict, accepts, refuses, of-chain, numbered}
+use Rattle.refusal.specs.Table.{Verdict, Side, accepts, refuses, of-chain, numbered, andThen}
+use Rattle.refusal.specs.declared.Line.{Line}
 use Rattle.basics.proofs.FirstLaws.{IsFirst, first-is}
 use Rattle.basics.proofs.BoolLaws.{by-true, by-false}
 use Rattle.chain.specs.Rows.{Rows, begins, ends}
-use Rattle.chain.specs.Rules.{orderSound, startsSound, badAt, firstBad, rowBad, firstBadRow, columnsChecked, checked}
-use Rattle.chain.specs.Sound.{SoundOrder, SoundStarts, SoundEntry, SoundColumns, Sound, FirstBroken, Says, order-broken, lengths-broken, starts-broken, columns-broken, all-hold}
+use Rattle.chain.specs.Rules.{orderSound, startsSound, badAt, firstBad, rowBad, firstBadRow, columnsChecked, rulesChecked, zerosChecked, checked}
+use Rattle.chain.specs.Sound.{SoundOrder, SoundStarts, SoundEntry, SoundColumns, Sound, Accepted, FirstBroken}
+use Rattle.chain.specs.Sound.{Says, order-broken, lengths-broken, starts-broken, columns-broken, rate-zero, all-hold}
 use Rattle.chain.proofs.SoundLaws.{order-true, order-of, starts-true, starts-of, entry-false, entry-of}
 use Rattle.chain.proofs.RulesLaws.{columns-bad, columns-sound}
+use Rattle.chain.proofs.ZeroLaws.{zeros-say, first-zero-is, none-zero-is}
 use Rattle.basics.proofs.BoolLaws.{not-so}
+
+-- what a verdict of 1 to 4 alone says: a rule is broken, or all are kept
+data RulesSay (c : Rows) : Verdict ℕ → Type 0 where
+  broken : {side : Side} {line : Line} → Says c (refuses side line) → RulesSay c (refuses side line)
+  kept : Sound c → RulesSay c (accepts (length (c .columns)))
 
 module _ (c : Rows) (s : SoundStarts c) where
   -- the search of one row
@@ -49,14 +57,14 @@ module _ (c : Rows) (s : SoundStarts c) where
         before = λ p a m. entry-false c row p (f .before p a m);
       }
 
-  pub columns-say : SoundOrder (c .order) → length (c .columns) ≡ length (c .rates) → Says c (columnsChecked c)
+  columns-say : SoundOrder (c .order) → length (c .columns) ≡ length (c .rates) → RulesSay c (columnsChecked c)
   unfolding columnsChecked
   columns-say o e = go (ltb (firstBadRow c) (c .order)) refl
     where
       go : (b : Bool) → ltb (firstBadRow c) (c .order) ≡ b
-          → Says c (cond b (refuses of-chain (numbered 4 (firstBadRow c) (firstBad c (firstBadRow c)))) (accepts (length (c .columns))))
-      go true t = columns-broken o e s (columns-first (ltb-true _ _ t))
-      go false t = all-hold (record { order = o; lengths = e; starts-rule = s; columns-rule = columns-none (ltb-false _ _ t) })
+          → RulesSay c (cond b (refuses of-chain (numbered 4 (firstBadRow c) (firstBad c (firstBadRow c)))) (accepts (length (c .columns))))
+      go true t = broken (columns-broken o e s (columns-first (ltb-true _ _ t)))
+      go false t = kept (record { order = o; lengths = e; starts-rule = s; columns-rule = columns-none (ltb-false _ _ t) })
 
   -- ---- there is only one first bad entry
 
@@ -91,61 +99,100 @@ module _ (c : Rows) (s : SoundStarts c) where
       go false t = columns-sound c (firstBadRow c) (ltb-false _ _ t) refl
 
 module _ (c : Rows) where
-  -- what the verdict says of the chain holds
-  pub checked-says : Says c (checked c)
-  unfolding checked
-  checked-says = at-order (orderSound (c .order)) refl
+  -- ---- 1 to 4
+
+  rules-say : RulesSay c (rulesChecked c)
+  unfolding rulesChecked
+  rules-say = at-order (orderSound (c .order)) refl
     where
       at-starts : SoundOrder (c .order) → length (c .columns) ≡ length (c .rates)
           → (b : Bool) → startsSound (c .order) (c .starts) (length (c .columns)) ≡ b
-          → Says c (cond b (columnsChecked c) (refuses of-chain (numbered 3 0 0)))
+          → RulesSay c (cond b (columnsChecked c) (refuses of-chain (numbered 3 0 0)))
       at-starts o e true t = columns-say c (starts-true c t) o e
-      at-starts o e false t = starts-broken o e (λ s. false≢true (sym t ∙ starts-of c s))
+      at-starts o e false t = broken (starts-broken o e (λ s. false≢true (sym t ∙ starts-of c s)))
 
       rest : Verdict ℕ
       rest = cond (startsSound (c .order) (c .starts) (length (c .columns))) (columnsChecked c) (refuses of-chain (numbered 3 0 0))
 
       at-lengths : SoundOrder (c .order) → (b : Bool) → eqb (length (c .columns)) (length (c .rates)) ≡ b
-          → Says c (cond b rest (refuses of-chain (numbered 2 0 0)))
+          → RulesSay c (cond b rest (refuses of-chain (numbered 2 0 0)))
       at-lengths o true t = at-starts o (eqb-true _ _ t) _ refl
-      at-lengths o false t = lengths-broken o (eqb-false _ _ t)
+      at-lengths o false t = broken (lengths-broken o (eqb-false _ _ t))
 
       at-order : (b : Bool) → orderSound (c .order) ≡ b
-          → Says c (cond b (cond (eqb (length (c .columns)) (length (c .rates))) rest (refuses of-chain (numbered 2 0 0))) (refuses of-chain (numbered 1 0 0)))
+          → RulesSay c (cond b (cond (eqb (length (c .columns)) (length (c .rates))) rest (refuses of-chain (numbered 2 0 0))) (refuses of-chain (numbered 1 0 0)))
       at-order true t = at-lengths (order-true _ t) _ refl
-      at-order false t = order-broken (λ o. false≢true (sym t ∙ order-of _ o))
+      at-order false t = broken (order-broken (λ o. false≢true (sym t ∙ order-of _ o)))
+
+  -- a chain keeps the rules 1 to 4 if and only if they refuse it not
+  pub sound-rules : Sound c → rulesChecked c ≡ accepts (length (c .columns))
+  unfolding rulesChecked
+  sound-rules h =
+      sym
+      (by-true _ _ (order-of _ (h .order))
+      (by-true _ _ (eq-eqb _ _ (h .lengths))
+      (by-true _ _ (starts-of c (h .starts-rule)) (columns-sound-is c (h .starts-rule) (h .columns-rule)))))
+
+  pub rules-sound : {k : ℕ} → rulesChecked c ≡ accepts k → Sound c
+  rules-sound {k} e = of-say (rulesChecked c) rules-say e
+    where
+      of-say : (v : Verdict ℕ) → RulesSay c v → v ≡ accepts k → Sound c
+      of-say v (kept h) q = h
+      of-say v (broken h) q = let z : _≡_ {A = ℕ} 0 1 = cc in absurd (omega arith)
+
+  -- ---- and 14
+
+  -- what the verdict says of the chain holds
+  pub checked-says : Says c (checked c)
+  unfolding checked
+  checked-says = go (rulesChecked c) rules-say
+    where
+      go : (v : Verdict ℕ) → RulesSay c v → Says c (andThen v (λ _. zerosChecked c))
+      go v (broken h) = h
+      go v (kept h) = zeros-say c h
 
   -- both promises of the check from the first
   pub check-means : {v : Verdict ℕ} → v ≡ checked c → (v ≡ checked c) × Says c v
   check-means e = (e, rw e checked-says)
 
+  -- a refusal by 1 to 4 is passed on; a chain that keeps them is told by its rates
+  pub rules-refused : {side : Side} {line : Line} → refuses side line ≡ rulesChecked c → refuses side line ≡ checked c
+  unfolding checked
+  rules-refused e = rw (← e)
+
+  pub rules-kept : {k : ℕ} → rulesChecked c ≡ accepts k → {v : Verdict ℕ} → v ≡ zerosChecked c → v ≡ checked c
+  unfolding checked
+  rules-kept e q = rw e q
+
   -- a verdict whose facts hold is the verdict
   pub says-checked : {v : Verdict ℕ} → Says c v → v ≡ checked c
-  unfolding checked
-  says-checked (order-broken h) = by-false _ _ (not-so _ (λ t. h (order-true _ t))) refl
-  says-checked (lengths-broken o h) = by-true _ _ (order-of _ o) (by-false _ _ (ne-eqb _ _ h) refl)
+  unfolding rulesChecked
+  says-checked (order-broken h) = rules-refused (by-false _ _ (not-so _ (λ t. h (order-true _ t))) refl)
+  says-checked (lengths-broken o h) = rules-refused (by-true _ _ (order-of _ o) (by-false _ _ (ne-eqb _ _ h) refl))
   says-checked (starts-broken o e h) =
-      by-true _ _ (order-of _ o) (by-true _ _ (eq-eqb _ _ e) (by-false _ _ (not-so _ (λ t. h (starts-true c t))) refl))
+      rules-refused (by-true _ _ (order-of _ o) (by-true _ _ (eq-eqb _ _ e) (by-false _ _ (not-so _ (λ t. h (starts-true c t))) refl)))
   says-checked (columns-broken o e s h) =
-      by-true _ _ (order-of _ o) (by-true _ _ (eq-eqb _ _ e) (by-true _ _ (starts-of c s) (columns-broken-is c s h)))
-  says-checked (all-hold h) =
-      by-true _ _ (order-of _ (h .order))
-      (by-true _ _ (eq-eqb _ _ (h .lengths))
-      (by-true _ _ (starts-of c (h .starts-rule)) (columns-sound-is c (h .starts-rule) (h .columns-rule))))
+      rules-refused (by-true _ _ (order-of _ o) (by-true _ _ (eq-eqb _ _ e) (by-true _ _ (starts-of c s) (columns-broken-is c s h))))
+  says-checked (rate-zero s h) = rules-kept (sound-rules s) (first-zero-is c s h)
+  says-checked (all-hold h) = rules-kept (sound-rules (h .sound)) (none-zero-is c (h .positive))
 
-  -- a chain is accepted if and only if all rules hold
-  pub sound-accepted : Sound c → checked c ≡ accepts (length (c .columns))
+  -- a chain is accepted if and only if all rules hold and every rate is positive
+  pub sound-accepted : Accepted c → checked c ≡ accepts (length (c .columns))
   sound-accepted h = sym (says-checked (all-hold h))
 
-  pub accepted-sound : {k : ℕ} → checked c ≡ accepts k → Sound c
-  accepted-sound {k} e = of-says (checked c) checked-says e
+  pub accepted-whole : {k : ℕ} → checked c ≡ accepts k → Accepted c
+  accepted-whole {k} e = of-says (checked c) checked-says e
     where
-      of-says : (v : Verdict ℕ) → Says c v → v ≡ accepts k → Sound c
+      of-says : (v : Verdict ℕ) → Says c v → v ≡ accepts k → Accepted c
       of-says v (all-hold h) q = h
       of-says v (order-broken h) q = let z : _≡_ {A = ℕ} 0 1 = cc in absurd (omega arith)
       of-says v (lengths-broken o h) q = let z : _≡_ {A = ℕ} 0 1 = cc in absurd (omega arith)
       of-says v (starts-broken o e h) q = let z : _≡_ {A = ℕ} 0 1 = cc in absurd (omega arith)
       of-says v (columns-broken o e s h) q = let z : _≡_ {A = ℕ} 0 1 = cc in absurd (omega arith)
+      of-says v (rate-zero s h) q = let z : _≡_ {A = ℕ} 0 1 = cc in absurd (omega arith)
+
+  pub accepted-sound : {k : ℕ} → checked c ≡ accepts k → Sound c
+  accepted-sound e = accepted-whole e .sound
 
   pub accepted-count : {k : ℕ} → checked c ≡ accepts k → k ≡ length (c .columns)
-  accepted-count {k} e = let a = sound-accepted (accepted-sound e) in cc
+  accepted-count {k} e = let a = sound-accepted (accepted-whole e) in cc

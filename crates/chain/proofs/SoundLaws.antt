@@ -56,14 +56,19 @@ module _ (c : Rows) where
       no-fall : fall ≡ c .order
       no-fall = ⊎-elim (λ e. e) (λ l. absurd (stop l)) (eq-or-lt-of-le (search .high))
 
--- the starts rise to the last one
-up : {c : Rows} → SoundStarts c → (d i : ℕ) → i + d ≡ c .order → begins c i ≤ begins c (c .order)
-up {c} h zero i e = let q : i ≡ c .order = omega arith in rw q (omega arith)
-up h (suc d) i e = omega (arith, h .rises i (omega arith), up h d (i + 1) (omega arith))
+-- the starts rise
+starts-rise : {c : Rows} → SoundStarts c → (d i : ℕ) → i + d ≤ c .order → begins c i ≤ begins c (i + d)
+starts-rise h zero i l = let q : i + 0 ≡ i = omega arith in rw q (omega arith)
+starts-rise h (suc d) i l =
+    let q : i + suc d ≡ i + 1 + d = omega arith in
+    rw q (omega (arith, h .rises i (omega arith), starts-rise h d (i + 1) (omega arith)))
+
+pub start-before : {c : Rows} → SoundStarts c → (i j : ℕ) → i ≤ j → j ≤ c .order → begins c i ≤ begins c j
+start-before h i j a b = let q : i + (j - i) ≡ j = omega arith in rw q at (starts-rise h (j - i) i (omega arith))
 
 -- so every start lies within the columns
 pub start-within : {c : Rows} → SoundStarts c → (i : ℕ) → i ≤ c .order → begins c i ≤ length (c .columns)
-start-within {c} h i l = omega (arith, up h (c .order - i) i (omega arith), h .last)
+start-within {c} h i l = omega (arith, start-before h i (c .order) l (omega arith), h .last)
 
 -- ---- 4
 

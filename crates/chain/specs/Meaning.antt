@@ -12,7 +12,7 @@ use Rattle.chain.specs.Rows.{Rows, begins, ends}
 abbrev pub adds : List ℕ → List ℕ → ℕ → ℕ → ℕ
 adds columns rates j place = cond (eqb (getD columns place 0) j) (getD rates place 0) 0
 
--- the rate from i to j. Where row i has no entry at column j it is 0. An accepted chain has at most one such entry.
--- "A rate of 0 is kept as an entry but means no move."
+-- the rate from i to j. Where row i has no entry at column j it is 0. A chain that keeps the rules has at most one such entry. An entry
+-- of rate 0, as chains had until request R-5, adds nothing: it meant no move.
 unfoldable pub rateIn : Rows → Rates
 rateIn c i j = sum (ends c i - begins c i) (λ q. adds (c .columns) (c .rates) j (begins c i + q))

@@ -1,5 +1,5 @@
 -- Document 01, "A chain in rows": "a row look-up hands back the caller's own rates of that row. For an input refused by 1 to 4,
--- or a row number of n or more, it hands back the empty part."
+-- or a row number of n or more, it hands back the empty part." Request R-5: also for a chain with a zero rate.
 use Prim.Native.Nat.{ℕ, _+_, _-_, _*_}
 use mathlib.Core.Bool.{cond}
 use mathlib.Core.List.{List}

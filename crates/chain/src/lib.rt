@@ -1,4 +1,4 @@
-// Chains in rows: the checks 1 to 4 and the row look-up.
+// Chains in rows: the checks 1 to 4 and 14, and the row look-up.
 ghost use mathlib.Core.Path.{_≡_};
 ghost use mathlib.Core.Bool.{true};
 ghost use mathlib.Core.List.{List};
@@ -7,8 +7,8 @@ ghost use lib.ListN.{length};
 ghost use Rattle.basics.specs.First.{first};
 ghost use Rattle.refusal.specs.Table.{verdict};
 ghost use Rattle.chain.specs.Rows.{rows, inRows};
-ghost use Rattle.chain.specs.Rules.{orderSound, fallsAt, startsSound, entryBad, columnsChecked, checked};
-ghost use Rattle.chain.specs.Sound.{Says};
+ghost use Rattle.chain.specs.Rules.{orderSound, fallsAt, startsSound, entryBad, columnsChecked, rulesChecked, firstZero, rowOf, zerosChecked, checked};
+ghost use Rattle.chain.specs.Sound.{Sound, Says};
 ghost use Rattle.chain.specs.Row.{rowPart, rowRates, standsAt};
 use refusal::ChainReason;
 use refusal::Outcome;
@@ -108,11 +108,9 @@ fn check_columns(n: usize, starts: &[u32], columns: &[u32]) -> Outcome
     Outcome::Done(columns.len())
 }
 
-// The first of the rules 1 to 4 that is broken, or the number of entries, and what that says of the chain. No other verdict has
-// facts that hold: `says-checked` of proofs/Reading.
-pub fn check(n: usize, starts: &[u32], columns: &[u32], rates: &[u32]) -> Outcome
-    ensures computed { λ r. ⌜ verdict r ≡ checked (inRows n (starts .entry) (columns .entry) (rates .entry)) ⌝ }
-    ensures meaning { λ r. ⌜ Says (inRows n (starts .entry) (columns .entry) (rates .entry)) (verdict r) ⌝ }
+// The first of the rules 1 to 4 that is broken, or the number of entries.
+fn check_rules(n: usize, starts: &[u32], columns: &[u32], rates: &[u32]) -> Outcome
+    ensures { λ r. ⌜ verdict r ≡ rulesChecked (inRows n (starts .entry) (columns .entry) (rates .entry)) ⌝ }
 {
     if !order_sound(n) {
         return Outcome::Refused(Refusal::Chain(ChainReason::Order));
@@ -126,7 +124,63 @@ pub fn check(n: usize, starts: &[u32], columns: &[u32], rates: &[u32]) -> Outcom
     check_columns(n, starts, columns)
 }
 
-// The caller's own rates of a row; the empty part for a chain refused by 1 to 4, or a row number of n or more.
+// The place of the first rate of 0, or the number of rates.
+fn first_zero(rates: &[u32]) -> usize
+    ensures { λ r. ⌜ r ≡ firstZero (now (rates .entry)) ⌝ }
+{
+    let mut place = 0;
+    while place < rates.len() {
+        if rates[place] == 0 {
+            return place;
+        }
+        place += 1;
+    }
+    place
+}
+
+// The row in which the entry at a place stands: the first that ends after it, or n.
+fn row_of(n: usize, starts: &[u32], place: usize) -> usize
+    requires { ⌜ n < length (now starts) ⌝ }
+    ensures { λ r. ⌜ r ≡ rowOf n (now (starts .entry)) place ⌝ }
+{
+    let mut row = 0;
+    while row < n {
+        if place < wide(starts[row + 1]) {
+            return row;
+        }
+        row += 1;
+    }
+    row
+}
+
+// The first entry of rate 0 of a chain that keeps the rules, or the number of entries.
+fn check_zeros(n: usize, starts: &[u32], columns: &[u32], rates: &[u32]) -> Outcome
+    requires { ⌜ Sound (inRows n starts columns rates) ⌝ }
+    ensures { λ r. ⌜ verdict r ≡ zerosChecked (inRows n (starts .entry) (columns .entry) (rates .entry)) ⌝ }
+{
+    let place = first_zero(rates);
+    let row = row_of(n, starts, place);
+    if row < n {
+        let column = wide(columns[place]);
+        return Outcome::Refused(Refusal::Chain(ChainReason::ZeroRate(row, column)));
+    }
+    Outcome::Done(columns.len())
+}
+
+// The first of 1, 2, 3, 4, 14 that applies, or the number of entries, and what that says of the chain. No other verdict has
+// facts that hold: `says-checked` of proofs/Reading.
+pub fn check(n: usize, starts: &[u32], columns: &[u32], rates: &[u32]) -> Outcome
+    ensures computed { λ r. ⌜ verdict r ≡ checked (inRows n (starts .entry) (columns .entry) (rates .entry)) ⌝ }
+    ensures meaning { λ r. ⌜ Says (inRows n (starts .entry) (columns .entry) (rates .entry)) (verdict r) ⌝ }
+{
+    let answer = check_rules(n, starts, columns, rates);
+    let Outcome::Done(_) = answer else {
+        return answer;
+    };
+    check_zeros(n, starts, columns, rates)
+}
+
+// The caller's own rates of a row; the empty part for a chain refused by 1 to 4 or 14, or a row number of n or more.
 pub fn row_rates<'a>(
     n: usize,
     starts: &[u32],

@@ -1,8 +1,8 @@
--- The verdict at each way out of the first pass of a reading, and what an accepted file or reading gives. Assumes nothing.
+-- The verdict on a file at each way out of the first pass, what an accepted one gives, and the room. Assumes nothing.
 use Prim.Native.Nat.{ℕ, _+_, _<_, _≤_}
-use mathlib.Core.Bool.{true, false, _&&_}
+use mathlib.Core.Bool.{Bool, true, false, _&&_}
 use mathlib.Core.List.{List}
-use mathlib.Core.Path.{_≡_, refl, sym, ap}
+use mathlib.Core.Path.{_≡_, refl}
 use native.Mathlib.Omega.{arith}
 use lib.Dec.{ltb, leb}
 use lib.ListN.{length}
@@ -11,11 +11,10 @@ use Rattle.chain.specs.Rules.{orderSound}
 use Rattle.chain.specs.Sound.{SoundOrder}
 use Rattle.chain.proofs.SoundLaws.{order-true}
 use Rattle.basics.proofs.BoolLaws.{by-true, by-false, both}
-use Rattle.refusal.specs.Table.{Verdict, accepts, refusal}
-use Rattle.refusal.specs.declared.Refusal.{Refusal}
+use Rattle.refusal.specs.Table.{Verdict, accepts}
 use Rattle.layout.specs.Bytes.{orderOf}
-use Rattle.checking.specs.Verdict.{bytesRefused, rowsChecked, fileChecked, roomToRead, HasRoom, readVerdict}
-use Rattle.refusal.proofs.VerdictLaws.{accepted-if, accepted-then}
+use Rattle.checking.specs.Verdict.{bytesRefused, rowsChecked, fileChecked, roomToRead, HasRoom}
+use Rattle.refusal.proofs.VerdictLaws.{accepted-if}
 
 pub order-above : (n : ℕ) → 0 < n → leb n 64 ≡ orderSound n
 order-above n h = rw (lt-ltb 0 n h)
@@ -51,60 +50,28 @@ module _ (n e starts columns rates : ℕ) where
 
 -- ---- the bytes themselves
 
-module _ (bytes : List ℕ) where
-  pub file-empty : length bytes ≡ 0 → bytesRefused 8 0 0 ≡ fileChecked bytes
+module _ (zeros : Bool) (bytes : List ℕ) where
+  pub file-empty : length bytes ≡ 0 → bytesRefused 8 0 0 ≡ fileChecked zeros bytes
   unfolding fileChecked
   file-empty h = by-false _ _ (le-ltb 0 (length bytes) (omega arith)) refl
 
   module _ (h : 0 < length bytes) where
-    pub file-order : orderSound (orderOf bytes) ≡ false → bytesRefused 1 0 0 ≡ fileChecked bytes
+    pub file-order : orderSound (orderOf bytes) ≡ false → bytesRefused 1 0 0 ≡ fileChecked zeros bytes
     unfolding fileChecked
     file-order o = by-true _ _ (lt-ltb 0 (length bytes) h) (by-false _ _ o refl)
 
-    pub file-rows : orderSound (orderOf bytes) ≡ true → (v : Verdict ℕ) → v ≡ rowsChecked bytes (orderOf bytes) (orderOf bytes) 0 1 0 → v ≡ fileChecked bytes
+    pub file-rows : orderSound (orderOf bytes) ≡ true → (v : Verdict ℕ) → v ≡ rowsChecked zeros bytes (orderOf bytes) (orderOf bytes) 0 1 0 → v ≡ fileChecked zeros bytes
     unfolding fileChecked
     file-rows o v e = by-true _ _ (lt-ltb 0 (length bytes) h) (by-true _ _ o e)
 
   pub record FileIs (e : ℕ) : Type 0 where
     pub some : 0 < length bytes
     pub order : SoundOrder (orderOf bytes)
-    pub rows : rowsChecked bytes (orderOf bytes) (orderOf bytes) 0 1 0 ≡ accepts e
+    pub rows : rowsChecked zeros bytes (orderOf bytes) (orderOf bytes) 0 1 0 ≡ accepts e
 
-  pub file-is : (e : ℕ) → fileChecked bytes ≡ accepts e → FileIs e
+  pub file-is : (e : ℕ) → fileChecked zeros bytes ≡ accepts e → FileIs e
   unfolding fileChecked
   file-is e h =
       let a = accepted-if (ltb 0 (length bytes)) _ _ _ e h in
       let b = accepted-if (orderSound (orderOf bytes)) _ _ _ e (a .1) in
       record { some = ltb-true _ _ (a .0); order = order-true _ (b .0); rows = b .1 }
-
--- ---- a reading
-
-module _ (bytes : List ℕ) (starts columns rates : ℕ) where
-  pub read-refused : (f : Refusal) → refusal f ≡ fileChecked bytes → refusal f ≡ readVerdict bytes starts columns rates
-  unfolding readVerdict
-  read-refused f e = rw (← e)
-
-  module _ (e : ℕ) (h : fileChecked bytes ≡ accepts e) where
-    pub read-no-room : roomToRead (orderOf bytes) e starts columns rates ≡ false → bytesRefused 5 0 0 ≡ readVerdict bytes starts columns rates
-    unfolding readVerdict
-    read-no-room t = rw (h, t)
-
-    pub read-room : roomToRead (orderOf bytes) e starts columns rates ≡ true → accepts (orderOf bytes, e) ≡ readVerdict bytes starts columns rates
-    unfolding readVerdict
-    read-room t = rw (h, t)
-
-  pub record ReadIs (n e : ℕ) : Type 0 where
-    pub order : n ≡ orderOf bytes
-    pub file : fileChecked bytes ≡ accepts e
-    pub room : HasRoom (orderOf bytes) e starts columns rates
-
-  pub read-is : (n e : ℕ) → readVerdict bytes starts columns rates ≡ accepts (n, e) → ReadIs n e
-  unfolding readVerdict
-  read-is n e h =
-      let (k, a, b) = accepted-then (fileChecked bytes) _ (n, e) h in
-      let t = accepted-if (roomToRead (orderOf bytes) k starts columns rates) _ _ _ (n, e) b in
-      let q : _≡_ {A = Verdict (ℕ × ℕ)} (accepts (orderOf bytes, k)) (accepts (n, e)) = t .1 in
-      let pair : _≡_ {A = ℕ × ℕ} (orderOf bytes, k) (n, e) = cc in
-      let q₁ : n ≡ orderOf bytes = sym (ap (λ (x : ℕ × ℕ). x .0) pair) in
-      let q₂ : k ≡ e = ap (λ (x : ℕ × ℕ). x .1) pair in
-      record { order = q₁; file = rw q₂ at a; room = rw q₂ at (has-room (orderOf bytes) k starts columns rates (t .0)) }

@@ -7,6 +7,7 @@ ghost use Rattle.chain.specs.Rules.{orderSound};
 ghost use Rattle.layout.specs.Bytes.{mapBytes, storedCount, storedColumns};
 ghost use Rattle.checking.specs.Verdict.{badBit, firstBadBit, rateChecked, ratesChecked, rowChecked, rowsChecked, fileChecked, roomToRead};
 use layout::bit_at;
+use layout::rate_at;
 use refusal::BytesReason;
 use refusal::Outcome;
 use refusal::Refusal;
@@ -54,27 +55,30 @@ fn count_bits(bytes: &[u8], n: usize, map: usize) -> usize
     k
 }
 
-// One rate, from a place on: the place after it. What is asked of a single rate as it is read stands here.
-fn check_rate(bytes: &[u8], place: usize) -> Outcome
+// The rate of a row's column, from a place on: the place after it. What is asked of a single rate as it is read stands here.
+fn check_rate(bytes: &[u8], zeros: bool, row: usize, column: usize, place: usize) -> Outcome
     requires { ⌜ place ≤ length (now bytes) ⌝ }
-    ensures { λ r. ⌜ verdict r ≡ rateChecked (now (bytes .entry)) place ⌝ }
+    ensures { λ r. ⌜ verdict r ≡ rateChecked zeros (now (bytes .entry)) row column place ⌝ }
 {
     if bytes.len() - place < 4 {
         return Outcome::Refused(Refusal::Bytes(BytesReason::Short));
     }
-    Outcome::Done(place + 4)
+    if zeros || 0 < rate_at(bytes, place) {
+        return Outcome::Done(place + 4);
+    }
+    Outcome::Refused(Refusal::Bytes(BytesReason::ZeroRate(row, column)))
 }
 
 // The rates of a row: the place after them.
-fn check_rates(bytes: &[u8], n: usize, map: usize) -> Outcome
+fn check_rates(bytes: &[u8], zeros: bool, n: usize, row: usize, map: usize) -> Outcome
     requires { ⌜ (n ≤ 64) × (map + mapBytes n ≤ length (now bytes)) ⌝ }
-    ensures { λ r. ⌜ verdict r ≡ ratesChecked (now (bytes .entry)) (storedColumns (now (bytes .entry)) n map) (map + mapBytes n) ⌝ }
+    ensures { λ r. ⌜ verdict r ≡ ratesChecked zeros (now (bytes .entry)) row (storedColumns (now (bytes .entry)) n map) (map + mapBytes n) ⌝ }
 {
     let mut place = map + (n + 7) / 8;
     let mut j = 0;
     while j < n {
         if bit_at(bytes, map, j) {
-            let answer = check_rate(bytes, place);
+            let answer = check_rate(bytes, zeros, row, j, place);
             let Outcome::Done(next) = answer else {
                 return answer;
             };
@@ -86,9 +90,9 @@ fn check_rates(bytes: &[u8], n: usize, map: usize) -> Outcome
 }
 
 // One row, whose map begins at a place: the place after it.
-fn check_row(bytes: &[u8], n: usize, row: usize, map: usize) -> Outcome
+fn check_row(bytes: &[u8], zeros: bool, n: usize, row: usize, map: usize) -> Outcome
     requires { ⌜ (n ≤ 64) × (map ≤ length (now bytes)) ⌝ }
-    ensures { λ r. ⌜ verdict r ≡ rowChecked (now (bytes .entry)) n row map ⌝ }
+    ensures { λ r. ⌜ verdict r ≡ rowChecked zeros (now (bytes .entry)) n row map ⌝ }
 {
     let width = (n + 7) / 8;
     if bytes.len() - map < width {
@@ -98,19 +102,19 @@ fn check_row(bytes: &[u8], n: usize, row: usize, map: usize) -> Outcome
     if bit < 8 * width {
         return Outcome::Refused(Refusal::Bytes(BytesReason::Bit(row, bit)));
     }
-    check_rates(bytes, n, map)
+    check_rates(bytes, zeros, n, row, map)
 }
 
 // All rows, and nothing after them: the number of entries.
-fn check_rows(bytes: &[u8], n: usize) -> Outcome
+fn check_rows(bytes: &[u8], zeros: bool, n: usize) -> Outcome
     requires { ⌜ (n ≤ 64) × (1 ≤ length (now bytes)) ⌝ }
-    ensures { λ r. ⌜ verdict r ≡ rowsChecked (now (bytes .entry)) n n 0 1 0 ⌝ }
+    ensures { λ r. ⌜ verdict r ≡ rowsChecked zeros (now (bytes .entry)) n n 0 1 0 ⌝ }
 {
     let mut row = 0;
     let mut map = 1;
     let mut e = 0;
     while row < n {
-        let answer = check_row(bytes, n, row, map);
+        let answer = check_row(bytes, zeros, n, row, map);
         let Outcome::Done(next) = answer else {
             return answer;
         };
@@ -134,9 +138,9 @@ fn order_sound(n: usize) -> bool
     false
 }
 
-// All that is asked of the bytes themselves: the number of entries.
-pub fn check_file(bytes: &[u8]) -> Outcome
-    ensures { λ r. ⌜ verdict r ≡ fileChecked (now (bytes .entry)) ⌝ }
+// All that is asked of the bytes themselves, rates of 0 being taken or not: the number of entries.
+pub fn check_file(bytes: &[u8], zeros: bool) -> Outcome
+    ensures { λ r. ⌜ verdict r ≡ fileChecked zeros (now (bytes .entry)) ⌝ }
 {
     if bytes.len() == 0 {
         return Outcome::Refused(Refusal::Bytes(BytesReason::Short));
@@ -145,7 +149,7 @@ pub fn check_file(bytes: &[u8]) -> Outcome
     if !order_sound(n) {
         return Outcome::Refused(Refusal::Bytes(BytesReason::Order));
     }
-    check_rows(bytes, n)
+    check_rows(bytes, zeros, n)
 }
 
 // Whether slices of these lengths hold a chain of order n with e entries.

@@ -40,7 +40,7 @@ module _ (n : ℕ) (l : GroupLent) where
       (and-yes _ _ (le-leb _ _ (r .for-groups .for-m)) (le-leb _ _ (r .for-groups .for-e)))
 
 module _ (c : Rows) (table : List ℕ) (l : GroupLent) where
-  -- ---- from 1 to 4, to 13, 12 and 11, to 5, to 6
+  -- ---- from 1 to 4 and 14, to 13, 12 and 11, to 5, to 6
 
   at-reach : {k j : ℕ} {v : Verdict ℕ} → checked c ≡ accepts k → tableChecked (c .order) table ≡ accepts j → enoughFor (c .order) l ≡ true
       → answered c ≡ v → AnswerSays c v → GroupsSay c table l (groupsSolved c table (enoughFor (c .order) l))
@@ -48,20 +48,20 @@ module _ (c : Rows) (table : List ℕ) (l : GroupLent) where
   at-reach q t b e (reach.rule-broken h) = rw (q, t, b, e) (rule-broken h)
   at-reach q t b e (reach.two-closed s h) = rw (q, t, b, e) (two-closed s (tables.accepted-sound _ _ t) (room-of _ l b) h)
   at-reach q t b e (reach.has-answer s h) =
-      rw (q, t, b, e) (solves (record { sound = s; table-sound = tables.accepted-sound _ _ t; room = room-of _ l b; answer = h }))
+      rw (q, t, b, e) (solves (record { accepted = s; table-sound = tables.accepted-sound _ _ t; room = room-of _ l b; answer = h }))
 
   at-room : {k j : ℕ} → checked c ≡ accepts k → tableChecked (c .order) table ≡ accepts j → (b : Bool) → enoughFor (c .order) l ≡ b
       → GroupsSay c table l (groupsSolved c table (enoughFor (c .order) l))
   unfolding groupsSolved solved
   at-room q t true b = at-reach q t b refl (answered-says c)
   at-room q t false b =
-      rw (q, t, b) (no-room (rules.accepted-sound c q) (tables.accepted-sound _ _ t) (λ r. false≢true (sym b ∙ room-held _ l r)))
+      rw (q, t, b) (no-room (rules.accepted-whole c q) (tables.accepted-sound _ _ t) (λ r. false≢true (sym b ∙ room-held _ l r)))
 
   at-table : {k : ℕ} → checked c ≡ accepts k → (v : Verdict ℕ) → tableChecked (c .order) table ≡ v
       → GroupsSay c table l (groupsSolved c table (enoughFor (c .order) l))
   unfolding groupsSolved
   at-table q (accepts j) t = at-room q t (enoughFor (c .order) l) refl
-  at-table q (refuses side line) t = rw (q, t) (table-broken (rules.accepted-sound c q) (rw t at (tables.checked-says (c .order) table)))
+  at-table q (refuses side line) t = rw (q, t) (table-broken (rules.accepted-whole c q) (rw t at (tables.checked-says (c .order) table)))
 
   at-rules : (v : Verdict ℕ) → checked c ≡ v → GroupsSay c table l (groupsSolved c table (enoughFor (c .order) l))
   unfolding groupsSolved
@@ -76,7 +76,7 @@ module _ (c : Rows) (table : List ℕ) (l : GroupLent) where
   pub solvable-accepted : GroupsSolvable c table l → groupsSolved c table (enoughFor (c .order) l) ≡ accepts (countOf c)
   unfolding groupsSolved solved
   solvable-accepted h =
-      rw (rules.sound-accepted c (h .sound), tables.sound-accepted _ _ (h .table-sound), room-held _ l (h .room), answer-accepted c (h .sound) (h .answer))
+      rw (rules.sound-accepted c (h .accepted), tables.sound-accepted _ _ (h .table-sound), room-held _ l (h .room), answer-accepted c (h .accepted) (h .answer))
 
   pub accepted-solvable : {k : ℕ} → groupsSolved c table (enoughFor (c .order) l) ≡ accepts k → GroupsSolvable c table l
   accepted-solvable {k} q = go (groupsSolved c table (enoughFor (c .order) l)) solved-says q

@@ -1,4 +1,4 @@
--- 1 to 4, 13, 12, 11 and 5: what `suits` and `admit` answer at each of their ways out, and what follows for the whole answer. Assumes
+-- 1 to 4, 14, 13, 12, 11 and 5: what `suits` and `admit` answer at each of their ways out, and what follows for the whole answer. Assumes
 -- nothing.
 use mathlib.Core.Bool.{Bool, true, false, false≢true, _&&_, cond}
 use mathlib.Core.List.{List}

@@ -99,7 +99,7 @@ module _ {c : Rows} (table : List ℕ) (old : GroupLent) {r : Outcome} (q : verd
 
     pub summable : Summable (c .order) table (cut (c .order) (mid .shares)) (cut groupPlaces (old .groups))
     summable = record {
-      order = solvable .sound .order .high;
+      order = solvable .accepted .sound .order .high;
       sound = solvable .table-sound;
       sized = places-cut (mid .shares) places;
       room = places-cut (old .groups) (solvable .room .for-groups);

@@ -19,7 +19,7 @@ use Rattle.scaled.specs.Scaled.{zeroNumber, isScaled}
 use Rattle.scaled.specs.Units.{val, one, factor}
 use Rattle.chain.specs.Rows.{Rows}
 use Rattle.chain.specs.Rules.{checked}
-use Rattle.chain.specs.Sound.{Sound, Says}
+use Rattle.chain.specs.Sound.{Accepted, Says}
 use Rattle.chain.specs.Meaning.{rateIn}
 use Rattle.reach.specs.ClosedSets.{TwoClosed}
 use Rattle.reach.specs.Answer.{setOf}
@@ -51,8 +51,8 @@ pub record GroupRoomy (n : ℕ) (l : GroupLent) : Type 0 where
 
 -- ---- the answer
 
--- 13, 12 and 11 stand "between 4 and 5": 1, 2, 3, 4, 13, 12, 11, 5, 6 in that order, or the bound count. (`solved` tries 1 to 4 again,
--- which changes nothing.)
+-- 13, 12 and 11 stand "between 4 and 5", behind 14, which is "tried straight after 4": 1, 2, 3, 4, 14, 13, 12, 11, 5, 6 in that order, or
+-- the bound count. (`solved` tries 1 to 4 and 14 again, which changes nothing.)
 unfoldable pub groupsSolved : Rows → List ℕ → Bool → Verdict ℕ
 groupsSolved c table room = andThen (checked c) (λ _. andThen (tableChecked (c .order) table) (λ _. solved c room))
 
@@ -64,7 +64,7 @@ groupSharesOf c table = groupShare table (c .order) (sharesOf c)
 
 -- no refusal applies
 pub record GroupsSolvable (c : Rows) (table : List ℕ) (l : GroupLent) : Type 0 where
-  pub sound : Sound c
+  pub accepted : Accepted c
   pub table-sound : SoundTable (c .order) table
   pub room : GroupRoomy (c .order) l
   pub answer : HasAnswer (c .order) (rateIn c)
@@ -72,9 +72,9 @@ pub record GroupsSolvable (c : Rows) (table : List ℕ) (l : GroupLent) : Type 0
 -- a refusal says that the refusals before it do not apply and that this one does; an acceptance that none does
 pub data GroupsSay (c : Rows) (table : List ℕ) (l : GroupLent) : Verdict ℕ → Type 0 where
   rule-broken : {side : Side} {line : Line} → Says c (refuses side line) → GroupsSay c table l (refuses side line)
-  table-broken : {side : Side} {line : Line} → Sound c → TableSays (c .order) table (refuses side line) → GroupsSay c table l (refuses side line)
-  no-room : Sound c → SoundTable (c .order) table → (GroupRoomy (c .order) l → ⊥) → GroupsSay c table l (refuses of-chain (numbered 5 0 0))
-  two-closed : {i j : ℕ} → Sound c → SoundTable (c .order) table → GroupRoomy (c .order) l → TwoClosed (c .order) (rateIn c) i j
+  table-broken : {side : Side} {line : Line} → Accepted c → TableSays (c .order) table (refuses side line) → GroupsSay c table l (refuses side line)
+  no-room : Accepted c → SoundTable (c .order) table → (GroupRoomy (c .order) l → ⊥) → GroupsSay c table l (refuses of-chain (numbered 5 0 0))
+  two-closed : {i j : ℕ} → Accepted c → SoundTable (c .order) table → GroupRoomy (c .order) l → TwoClosed (c .order) (rateIn c) i j
       → GroupsSay c table l (refuses of-chain (numbered 6 i j))
   solves : GroupsSolvable c table l → GroupsSay c table l (accepts (countOf c))
 

@@ -16,7 +16,7 @@ passes (refuses side line) = false
 unfoldable pub suits : ℕ → List ℕ → Bool → Bool
 suits n table room = leb n 64 && passes (tableChecked n table) && room
 
--- 1 to 4, then 13, 12 and 11, then 5 for the places of the groups: the first refusal, or the number of rows of the table
+-- 1 to 4 and 14, then 13, 12 and 11, then 5 for the places of the groups: the first refusal, or the number of rows of the table
 unfoldable pub admitted : Rows → List ℕ → Bool → Verdict ℕ
 admitted c table room =
     andThen (checked c) (λ _. andThen (tableChecked (c .order) table) (λ k. cond room (accepts k) (refuses of-chain (numbered 5 0 0))))

@@ -6,15 +6,15 @@ use native.Mathlib.Omega.{arith}
 use lib.IntN.{natAbs}
 use lib.ListN.{length, length-append}
 use lib.Seq.{sets}
-use Rattle.refusal.specs.declared.Line.{Line}
 use Rattle.scaled.specs.declared.Scaled.{Scaled}
 use Rattle.decimal.specs.Decimal.{decimal, signed}
 use Rattle.decimal.specs.Put.{Puts}
-use Rattle.decimal.proofs.DecimalLaws.{decimal-length, decimal-64, signed-length}
+use Rattle.decimal.proofs.DecimalLaws.{decimal-length, signed-length}
 use Rattle.decimal.proofs.Writing.{then}
 use Rattle.basics.proofs.SetsLaws.{sets-append}
 use Rattle.lines.specs.Inner.{fields}
-use Rattle.lines.specs.Lines.{newline, headerLine, stateLine, stateLines, answerLines, refusedLine}
+use Rattle.refused.specs.Refused.{newline}
+use Rattle.lines.specs.Lines.{headerLine, stateLine, stateLines, answerLines}
 
 -- ---- the length of a line, by its numbers
 
@@ -26,10 +26,6 @@ pub state-size : (number : ℕ) (weight share : Scaled) → length (stateLine nu
     ≡ 5 + length (decimal number) + length (decimal (weight .m)) + length (signed (weight .e)) + length (decimal (share .m)) + length (signed (share .e))
 unfolding stateLine
 state-size number weight share = simp length-append (omega arith)
-
-pub refused-size : (l : Line) → length (refusedLine l) ≡ 11 + length (decimal (l .number)) + length (decimal (l .first)) + length (decimal (l .second))
-unfolding refusedLine
-refused-size l = simp length-append (omega arith)
 
 pub answer-size : (n K : ℕ) (weight share : ℕ → Scaled)
     → length (answerLines n K weight share) ≡ length (headerLine n K) + length (stateLines weight share n 0)
@@ -65,11 +61,6 @@ state-length number weight share a b c d e =
       decimal-length 9 (share .m) (omega arith),
       signed-length 4 (share .e) (omega arith),
     )
-
--- the line of a refusal, for any places
-pub refused-length : (l : Line) → l .number < 2 ^ 32 → l .first < 2 ^ 64 → l .second < 2 ^ 64 → length (refusedLine l) ≤ 61
-refused-length l a b c =
-    omega (arith, refused-size l, decimal-length 9 (l .number) (omega arith), decimal-64 (l .first) b, decimal-64 (l .second) c)
 
 -- ---- the lines of the states, put one after the other
 

@@ -3,7 +3,7 @@ use Prim.Native.Nat.{ℕ}
 use mathlib.Core.List.{List, _∷_, _++_}
 use Rattle.scaled.specs.declared.Scaled.{Scaled}
 use Rattle.decimal.specs.Decimal.{decimal, signed}
-use Rattle.lines.specs.Lines.{blank}
+use Rattle.refused.specs.Refused.{blank}
 
 -- of a scaled number m and e, each after a blank
 abbrev pub fields : Scaled → List ℕ

@@ -1,21 +1,9 @@
--- Document 01, "The printing program": the three kinds of lines, "all decimal, single blanks".
+-- Document 01, "The printing program": the lines of an answer, "all decimal, single blanks".
 use Prim.Native.Nat.{ℕ, zero, suc, _+_}
 use mathlib.Core.List.{List, [], _∷_, _++_}
-use Rattle.refusal.specs.declared.Line.{Line}
 use Rattle.scaled.specs.declared.Scaled.{Scaled}
 use Rattle.decimal.specs.Decimal.{decimal, signed}
-
--- 32 is the blank, 10 ends a line
-abbrev pub blank : ℕ
-blank = 32
-
-abbrev pub newline : ℕ
-newline = 10
-
--- words with single blanks between them, and the end of the line
-abbrev pub lineOf : List ℕ → List (List ℕ) → List ℕ
-lineOf word [] = word ++ (newline ∷ [])
-lineOf word (next ∷ others) = word ++ (blank ∷ lineOf next others)
+use Rattle.refused.specs.Refused.{lineOf}
 
 -- the words that the program prints, in ASCII
 abbrev pub states : List ℕ
@@ -23,9 +11,6 @@ states = 115 ∷ 116 ∷ 97 ∷ 116 ∷ 101 ∷ 115 ∷ []
 
 abbrev pub bound : List ℕ
 bound = 98 ∷ 111 ∷ 117 ∷ 110 ∷ 100 ∷ []
-
-abbrev pub refused : List ℕ
-refused = 114 ∷ 101 ∷ 102 ∷ 117 ∷ 115 ∷ 101 ∷ 100 ∷ []
 
 -- "one line "states n bound K""
 unfoldable pub headerLine : ℕ → ℕ → List ℕ
@@ -44,7 +29,3 @@ stateLines weight share (suc count) i = stateLine i (weight i) (share i) ++ stat
 -- "one line "states n bound K", then for each state"
 abbrev pub answerLines : ℕ → ℕ → (ℕ → Scaled) → (ℕ → Scaled) → List ℕ
 answerLines n K weight share = headerLine n K ++ stateLines weight share n 0
-
--- "A refusal is the one line "refused", its number, its two places."
-unfoldable pub refusedLine : Line → List ℕ
-refusedLine l = lineOf refused (decimal (l .number) ∷ decimal (l .first) ∷ decimal (l .second) ∷ [])

@@ -1,42 +1,19 @@
-// The lines of the printing program, put into a buffer that has room for them. Each call answers the place after its text.
+// The lines of an answer, put into a buffer that has room for them. Each call answers the place after its text.
 ghost use Prim.Native.Nat.{_+_, _≤_};
-ghost use mathlib.Core.List.{_∷_};
 ghost use lib.ListN.{length};
 ghost use Rattle.decimal.specs.Decimal.{decimal, signed};
 ghost use Rattle.decimal.specs.Put.{Puts};
 ghost use Rattle.kernel.specs.Slices.{slices, numberAt};
 ghost use Rattle.lines.specs.Inner.{fields};
-ghost use Rattle.lines.specs.Lines.{blank, headerLine, stateLine, stateLines, answerLines, refusedLine};
-use refusal::Line;
+ghost use Rattle.lines.specs.Lines.{headerLine, stateLine, stateLines, answerLines};
 use scaled::Scaled;
-
-fn put_text(out: &mut [u8], at: usize, text: &[u8]) -> usize
-    requires { ⌜ at + length (now text) ≤ length (now out) ⌝ }
-    ensures { λ r. ⌜ Puts (now (out .entry)) at (now (text .entry)) (now (out .exit)) r ⌝ }
-{
-    let mut i = 0;
-    while i < text.len() {
-        out[at + i] = text[i];
-        i += 1;
-    }
-    at + i
-}
-
-// A blank and a number.
-fn put_field(out: &mut [u8], at: usize, x: u64) -> usize
-    requires { ⌜ at + 1 + length (decimal x) ≤ length (now out) ⌝ }
-    ensures { λ r. ⌜ Puts (now (out .entry)) at (blank ∷ decimal x) (now (out .exit)) r ⌝ }
-{
-    let first = decimal::put_byte(out, at, b' ');
-    decimal::put_number(out, first, x)
-}
 
 // Of a scaled number m and e, each after a blank.
 fn put_scaled(out: &mut [u8], at: usize, x: Scaled) -> usize
     requires { ⌜ at + 2 + length (decimal (x .m)) + length (signed (x .e)) ≤ length (now out) ⌝ }
     ensures { λ r. ⌜ Puts (now (out .entry)) at (fields x) (now (out .exit)) r ⌝ }
 {
-    let p = put_field(out, at, x.m as u64);
+    let p = refused::put_field(out, at, x.m as u64);
     let p = decimal::put_byte(out, p, b' ');
     decimal::put_signed(out, p, x.e)
 }
@@ -46,10 +23,10 @@ fn put_header(out: &mut [u8], at: usize, n: usize, bound: usize) -> usize
     requires { ⌜ at + 15 + length (decimal n) + length (decimal bound) ≤ length (now out) ⌝ }
     ensures { λ r. ⌜ Puts (now (out .entry)) at (headerLine n bound) (now (out .exit)) r ⌝ }
 {
-    let p = put_text(out, at, b"states");
-    let p = put_field(out, p, n as u64);
-    let p = put_text(out, p, b" bound");
-    let p = put_field(out, p, bound as u64);
+    let p = refused::put_text(out, at, b"states");
+    let p = refused::put_field(out, p, n as u64);
+    let p = refused::put_text(out, p, b" bound");
+    let p = refused::put_field(out, p, bound as u64);
     decimal::put_byte(out, p, b'\n')
 }
 
@@ -105,16 +82,4 @@ pub fn put_answer(
 {
     let at = put_header(out, 0, order, bound);
     put_states(out, at, order, wm, we, sm, se)
-}
-
-// The line of a refusal: "refused", its number, its two places.
-pub fn put_refused(out: &mut [u8], at: usize, line: Line) -> usize
-    requires { ⌜ at + 11 + length (decimal (line .number)) + length (decimal (line .first)) + length (decimal (line .second)) ≤ length (now out) ⌝ }
-    ensures { λ r. ⌜ Puts (now (out .entry)) at (refusedLine line) (now (out .exit)) r ⌝ }
-{
-    let p = put_text(out, at, b"refused");
-    let p = put_field(out, p, line.number as u64);
-    let p = put_field(out, p, line.first as u64);
-    let p = put_field(out, p, line.second as u64);
-    decimal::put_byte(out, p, b'\n')
 }

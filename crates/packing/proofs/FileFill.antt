@@ -11,6 +11,7 @@ use Rattle.basics.proofs.SetsLaws.{sets-append}
 use Rattle.refusal.specs.Table.{accepts}
 use Rattle.layout.specs.Bytes.{mapBytes, storedColumns, storedRates, rowEnd, storedCount, startsIn, columnsIn, ratesIn}
 use Rattle.layout.specs.Buffers.{Buffers, buffers}
+use Rattle.checking.specs.Sound.{zerosTaken}
 use Rattle.checking.specs.Verdict.{rowsChecked}
 use Rattle.packing.specs.Inner.{FillRow, FilledRow, Fill, Filled}
 use Rattle.layout.proofs.Columns.{one-more, entries-le, length-rates-at}
@@ -19,7 +20,7 @@ use Rattle.checking.proofs.Checks.{RowOfFile, row-of-file, rows-grow}
 pub record FillingAll (bytes : List ℕ) (n : ℕ) (old : Buffers) (e : ℕ) (b : Buffers) (row map p : ℕ) : Type 0 where
   pub turn : row ≤ n
   pub few : p ≤ 64 * row
-  pub sound : rowsChecked bytes n (n - row) row map p ≡ accepts e
+  pub sound : rowsChecked zerosTaken bytes n (n - row) row map p ≡ accepts e
   pub same-starts : length (b .starts) ≡ length (old .starts)
   pub same-columns : length (b .columns) ≡ length (old .columns)
   pub same-rates : length (b .rates) ≡ length (old .rates)
@@ -45,11 +46,11 @@ module _ (bytes : List ℕ) (n : ℕ) (old : Buffers) (e : ℕ) (a : Fill bytes 
   module _ (b : Buffers) (row map p : ℕ) (f : FillingAll bytes n old e b row map p) where
     -- a row is whole, and has room
     module _ (l : row < n) where
-      pub this : RowOfFile bytes n (n - (row + 1)) row map p e
-      this = row-of-file bytes n (n - (row + 1)) row map p e (rw (one-more l) at (f .sound))
+      pub this : RowOfFile zerosTaken bytes n (n - (row + 1)) row map p e
+      this = row-of-file zerosTaken bytes n (n - (row + 1)) row map p e (rw (one-more l) at (f .sound))
 
       below : p + storedCount bytes n map ≤ e
-      below = rows-grow bytes n (n - (row + 1)) (row + 1) (rowEnd bytes n map) (p + storedCount bytes n map) e (this .rest)
+      below = rows-grow zerosTaken bytes n (n - (row + 1)) (row + 1) (rowEnd bytes n map) (p + storedCount bytes n map) e (this .rest)
 
       pub asked : FillRow bytes n map (b .columns) (b .rates) p
       asked =

@@ -7,6 +7,7 @@ use lib.Seq.{sets}
 use Rattle.refusal.specs.Table.{accepts}
 use Rattle.layout.specs.Bytes.{mapBytes, storedCount, storedColumns, storedRates, rowEnd, startsIn, columnsIn, ratesIn}
 use Rattle.layout.specs.Buffers.{Buffers}
+use Rattle.checking.specs.Sound.{zerosTaken}
 use Rattle.checking.specs.Verdict.{rowsChecked}
 use Rattle.layout.specs.File.{mapOf, bytesOf}
 
@@ -25,7 +26,7 @@ pub record FilledRow (bytes : List ℕ) (n map : ℕ) (columns rates : List ℕ)
 -- all rows of a file whose bytes are sound are put into the three slices
 pub record Fill (bytes : List ℕ) (n : ℕ) (old : Buffers) (e : ℕ) : Type 0 where
   pub order : n ≤ 64
-  pub sound : rowsChecked bytes n n 0 1 0 ≡ accepts e
+  pub sound : rowsChecked zerosTaken bytes n n 0 1 0 ≡ accepts e
   pub starts-fit : n + 1 ≤ length (old .starts)
   pub columns-fit : e ≤ length (old .columns)
   pub rates-fit : e ≤ length (old .rates)

@@ -92,7 +92,7 @@ fn put_row(
     m + width + 4 * (b - a)
 }
 
-// A chain that keeps the rules 1 to 4, with e entries, put from place 0 on.
+// A chain that the check accepts, with e entries, put from place 0 on.
 pub fn put_chain(n: usize, starts: &[u32], columns: &[u32], rates: &[u32], out: &mut [u8], e: usize)
     requires { ⌜ (checked (inRows n starts columns rates) ≡ accepts e) × (fileSize n e ≤ length (now out)) ⌝ }
     ensures { λ _. ⌜ now (out .exit) ≡ sets (now (out .entry)) 0 (fileOf (inRows n (starts .entry) (columns .entry) (rates .entry))) ⌝ }

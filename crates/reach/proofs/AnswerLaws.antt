@@ -1,5 +1,5 @@
--- The definition `answered` gives exactly the verdict whose facts hold: a chain is accepted if and only if the rules 1 to 4 hold and it
--- has exactly one closed set, and 6 names the two lowest of the sets' lowest states. Assumes nothing.
+-- The definition `answered` gives exactly the verdict whose facts hold: a chain is accepted if and only if the rules hold, no rate is
+-- 0 and it has exactly one closed set, and 6 names the two lowest of the sets' lowest states. Assumes nothing.
 use Prim.Native.Nat.{ℕ, zero, _+_, _<_, _≤_}
 use mathlib.Core.Bool.{Bool, true, false, cond, not, _&&_, _||_}
 use mathlib.Core.Path.{_≡_, refl, sym, ap, ap₂, _∙_}
@@ -15,9 +15,9 @@ use Rattle.markov.specs.Chain.{Rates}
 use Rattle.markov.specs.Closed.{OnlyClosed, HasAnswer}
 use Rattle.chain.specs.Rows.{Rows}
 use Rattle.chain.specs.Rules.{checked}
-use Rattle.chain.specs.Sound.{Sound}
+use Rattle.chain.specs.Sound.{Sound, Accepted}
 use Rattle.chain.specs.Meaning.{rateIn}
-use Rattle.chain.proofs.Reading.{checked-says, says-checked, sound-accepted, accepted-sound}
+use Rattle.chain.proofs.Reading.{checked-says, says-checked, sound-accepted, accepted-whole}
 use Rattle.reach.specs.Reach.{via}
 use Rattle.reach.specs.ClosedSets.{settles, isLowest, firstLowest, secondLowest, TwoClosed}
 use Rattle.reach.specs.Answer.{oneClosed, answered, setOf, AnswerSays, rule-broken, two-closed, has-answer}
@@ -79,15 +79,15 @@ module _ (c : Rows) where
   unfolding setOf
   only-set s l = one-found (via-tells (c .order) (rateIn c)) (s .order .low) l
 
-  one-closed-says : Sound c → AnswerSays c (oneClosed (c .order) reached (length (c .columns)))
+  one-closed-says : Accepted c → AnswerSays c (oneClosed (c .order) reached (length (c .columns)))
   unfolding oneClosed
   one-closed-says s = go (ltb (secondLowest (c .order) reached) (c .order)) refl
     where
       go : (b : Bool) → ltb (secondLowest (c .order) reached) (c .order) ≡ b
           → AnswerSays c
           (cond b (refuses of-chain (numbered 6 (firstLowest (c .order) reached) (secondLowest (c .order) reached))) (accepts (length (c .columns))))
-      go true t = two-closed s (two-found (via-tells (c .order) (rateIn c)) (s .order .low) (ltb-true _ _ t))
-      go false t = has-answer s (record { set = setOf c; one = only-set s (ltb-false _ _ t) })
+      go true t = two-closed s (two-found (via-tells (c .order) (rateIn c)) (s .sound .order .low) (ltb-true _ _ t))
+      go false t = has-answer s (record { set = setOf c; one = only-set (s .sound) (ltb-false _ _ t) })
 
   -- what the verdict says of the chain holds
   pub answered-says : AnswerSays c (answered c)
@@ -95,24 +95,24 @@ module _ (c : Rows) where
   answered-says = go (checked c) refl
     where
       go : (v : Verdict ℕ) → checked c ≡ v → AnswerSays c (andThen v (λ _. oneClosed (c .order) reached (length (c .columns))))
-      go (accepts k) e = one-closed-says (accepted-sound c e)
+      go (accepts k) e = one-closed-says (accepted-whole c e)
       go (refuses side line) e = rule-broken (rw e at (checked-says c))
 
   -- a verdict whose facts hold is the verdict
   pub says-answered : {v : Verdict ℕ} → AnswerSays c v → v ≡ answered c
   unfolding answered
   says-answered (rule-broken s) = rw (← says-checked c s)
-  says-answered (two-closed s h) = rw (sound-accepted c s) (two-closed-is (c .order) (rateIn c) (s .order .low) (length (c .columns)) h)
-  says-answered (has-answer s h) = rw (sound-accepted c s) (has-answer-is (c .order) (rateIn c) (s .order .low) (length (c .columns)) h)
+  says-answered (two-closed s h) = rw (sound-accepted c s) (two-closed-is (c .order) (rateIn c) (s .sound .order .low) (length (c .columns)) h)
+  says-answered (has-answer s h) = rw (sound-accepted c s) (has-answer-is (c .order) (rateIn c) (s .sound .order .low) (length (c .columns)) h)
 
-  -- a chain is accepted if and only if the rules hold and it has an answer
-  pub answer-accepted : Sound c → HasAnswer (c .order) (rateIn c) → answered c ≡ accepts (length (c .columns))
+  -- a chain is accepted if and only if the check takes it and it has an answer
+  pub answer-accepted : Accepted c → HasAnswer (c .order) (rateIn c) → answered c ≡ accepts (length (c .columns))
   answer-accepted s h = sym (says-answered (has-answer s h))
 
-  pub accepted-answer : {k : ℕ} → answered c ≡ accepts k → Sound c × HasAnswer (c .order) (rateIn c)
+  pub accepted-answer : {k : ℕ} → answered c ≡ accepts k → Accepted c × HasAnswer (c .order) (rateIn c)
   accepted-answer {k} e = of-says (answered c) answered-says e
     where
-      of-says : (v : Verdict ℕ) → AnswerSays c v → v ≡ accepts k → Sound c × HasAnswer (c .order) (rateIn c)
+      of-says : (v : Verdict ℕ) → AnswerSays c v → v ≡ accepts k → Accepted c × HasAnswer (c .order) (rateIn c)
       of-says v (has-answer s h) q = (s, h)
       of-says v (rule-broken e) q = let z : _≡_ {A = ℕ} 0 1 = cc in absurd (omega arith)
       of-says v (two-closed s h) q = let z : _≡_ {A = ℕ} 0 1 = cc in absurd (omega arith)

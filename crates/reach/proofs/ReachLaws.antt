@@ -15,10 +15,10 @@ use Rattle.refusal.specs.declared.Line.{Line}
 use Rattle.markov.specs.Chain.{Rates}
 use Rattle.chain.specs.Rows.{Rows}
 use Rattle.chain.specs.Rules.{checked}
-use Rattle.chain.specs.Sound.{Sound}
+use Rattle.chain.specs.Sound.{Accepted}
 use Rattle.chain.specs.Meaning.{rateIn}
 use Rattle.basics.proofs.BoolLaws.{and-no, and-no-first, and-decides, or-no}
-use Rattle.chain.proofs.Reading.{checked-says, sound-accepted, accepted-sound}
+use Rattle.chain.proofs.Reading.{checked-says, sound-accepted, accepted-whole}
 use Rattle.chain.proofs.RateLaws.{rate-beyond}
 use Rattle.reach.specs.Reach.{via, stands, bits, isAccepted, reaches, Hold, ReachMasks}
 use Rattle.reach.specs.Inner.{viaBelow}
@@ -44,14 +44,14 @@ guarded ok true false v e h = rw e (h refl refl)
 guarded ok false to v e h = rw e
 
 module _ (c : Rows) (masks : List ℕ) where
-  pub masks-accepted : Sound c → Hold masks (viaBelow (c .order) (rateIn c) (c .order)) → Hold masks (reaches c)
+  pub masks-accepted : Accepted c → Hold masks (viaBelow (c .order) (rateIn c) (c .order)) → Hold masks (reaches c)
   unfolding reaches
   masks-accepted s h =
       record {
         bit = λ i j. h .bit i j
             ∙ guarded _ (ltb i (c .order)) (ltb j (c .order)) (via (rateIn c) (c .order) i j)
             (ap isAccepted (sound-accepted c s))
-            (λ a b. via-beyond (c .order) (rateIn c) (λ p q l m. rate-beyond s p l q m) (c .order) i j (omega arith) (ltb-true _ _ a) (ltb-false _ _ b));
+            (λ a b. via-beyond (c .order) (rateIn c) (λ p q l m. rate-beyond (s .sound) p l q m) (c .order) i j (omega arith) (ltb-true _ _ a) (ltb-false _ _ b));
       }
 
   -- for states below n the bits say who reaches whom; a mask at n or above is 0, and every mask of a refused chain
@@ -68,8 +68,8 @@ module _ (c : Rows) (masks : List ℕ) where
     none-refused = λ broken i. no-bits (getD masks i 0) (λ j. h .bit i j ∙ rw (refused (checked c) refl broken));
   }
     where
-      refused : (v : Verdict ℕ) → checked c ≡ v → (Sound c → ⊥) → isAccepted (checked c) ≡ false
-      refused (accepts k) e broken = absurd (broken (accepted-sound c e))
+      refused : (v : Verdict ℕ) → checked c ≡ v → (Accepted c → ⊥) → isAccepted (checked c) ≡ false
+      refused (accepts k) e broken = absurd (broken (accepted-whole c e))
       refused (refuses side line) e broken = ap isAccepted e
 
 module _ (c : Rows) where
@@ -78,7 +78,7 @@ module _ (c : Rows) where
   unfolding reaches
   masks-refused e = hold-zeros _ (λ i j. rw e)
 
-  -- ---- 1 to 4, then 6 from the masks; what is computed means what it says
+  -- ---- 1 to 4 and 14, then 6 from the masks; what is computed means what it says
 
   pub rule-refused : {o : Outcome} {f : Refusal} → verdict o ≡ checked c → o ≡ Refused f → (verdict o ≡ answered c) × AnswerSays c (verdict o)
   unfolding answered
@@ -86,13 +86,13 @@ module _ (c : Rows) where
       let e : checked c ≡ refusal f = sym q ∙ ap verdict t in
       (rw (t, e), rw t (rule-broken (rw e at (checked-says c))))
 
-  module _ {masks : List ℕ} (s : Sound c) (h : Hold masks (viaBelow (c .order) (rateIn c) (c .order))) where
+  module _ {masks : List ℕ} (s : Accepted c) (h : Hold masks (viaBelow (c .order) (rateIn c) (c .order))) where
     -- for states below n the masks are `via`
     masks-via : (i j : ℕ) → i < c .order → j < c .order → bits masks i j ≡ via (rateIn c) (c .order) i j
     masks-via i j a b = h .bit i j ∙ and-decides _ _ (lt-ltb i (c .order) a)
 
     pub masks-first : firstLowest (c .order) (bits masks) < c .order
-    masks-first = rw (first-lowest-cong (c .order) (bits masks) (via (rateIn c) (c .order)) masks-via) (first-below (via-tells (c .order) (rateIn c)) (s .order .low))
+    masks-first = rw (first-lowest-cong (c .order) (bits masks) (via (rateIn c) (c .order)) masks-via) (first-below (via-tells (c .order) (rateIn c)) (s .sound .order .low))
 
     pub masks-answer : {v : Verdict ℕ} → v ≡ oneClosed (c .order) (bits masks) (length (c .columns)) → (v ≡ answered c) × AnswerSays c v
     unfolding answered

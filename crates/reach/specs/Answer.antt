@@ -8,7 +8,7 @@ use Rattle.refusal.specs.declared.Line.{Line}
 use Rattle.markov.specs.Closed.{HasAnswer}
 use Rattle.chain.specs.Rows.{Rows}
 use Rattle.chain.specs.Rules.{checked}
-use Rattle.chain.specs.Sound.{Sound, Says}
+use Rattle.chain.specs.Sound.{Accepted, Says}
 use Rattle.chain.specs.Meaning.{rateIn}
 use Rattle.reach.specs.Reach.{via}
 use Rattle.reach.specs.ClosedSets.{firstLowest, secondLowest, lowestSet, TwoClosed}
@@ -20,7 +20,7 @@ oneClosed n reached given =
     (refuses of-chain (numbered 6 (firstLowest n reached) (secondLowest n reached)))
     (accepts given)
 
--- the first of 1 to 4 and 6 that applies, or the number of entries
+-- the first of 1 to 4, 14 and 6 that applies, or the number of entries
 unfoldable pub answered : Rows → Verdict ℕ
 answered c = andThen (checked c) (λ _. oneClosed (c .order) (via (rateIn c) (c .order)) (length (c .columns)))
 
@@ -28,8 +28,8 @@ answered c = andThen (checked c) (λ _. oneClosed (c .order) (via (rateIn c) (c 
 unfoldable pub setOf : Rows → ℕ → Bool
 setOf c = lowestSet (c .order) (via (rateIn c) (c .order))
 
--- what each verdict of 1 to 4 and 6 says of a chain
+-- what each verdict of 1 to 4, 14 and 6 says of a chain
 pub data AnswerSays (c : Rows) : Verdict ℕ → Type 0 where
   rule-broken : {side : Side} {line : Line} → Says c (refuses side line) → AnswerSays c (refuses side line)
-  two-closed : {i j : ℕ} → Sound c → TwoClosed (c .order) (rateIn c) i j → AnswerSays c (refuses of-chain (numbered 6 i j))
-  has-answer : Sound c → HasAnswer (c .order) (rateIn c) → AnswerSays c (accepts (length (c .columns)))
+  two-closed : {i j : ℕ} → Accepted c → TwoClosed (c .order) (rateIn c) i j → AnswerSays c (refuses of-chain (numbered 6 i j))
+  has-answer : Accepted c → HasAnswer (c .order) (rateIn c) → AnswerSays c (accepts (length (c .columns)))

@@ -11,7 +11,7 @@ use Rattle.refusal.specs.Table.{Verdict, accepts, refuses}
 use Rattle.markov.specs.Chain.{Rates, Reaches}
 use Rattle.chain.specs.Rows.{Rows}
 use Rattle.chain.specs.Rules.{checked}
-use Rattle.chain.specs.Sound.{Sound}
+use Rattle.chain.specs.Sound.{Accepted}
 use Rattle.chain.specs.Meaning.{rateIn}
 
 -- whether i reaches j when only states below k may stand between (the recursion of Floyd and Warshall)
@@ -32,7 +32,7 @@ isAccepted (accepts k) = true
 isAccepted (refuses side line) = false
 
 -- "The states reached are held as one 64-bit mask for each state": whether bit j of the mask of state i has to stand. No bit
--- stands for a chain refused by 1 to 4, nor one at n or above, nor one of a mask at n or above.
+-- stands for a chain refused by 1 to 4 or 14, nor one at n or above, nor one of a mask at n or above.
 unfoldable pub reaches : Rows → ℕ → ℕ → Bool
 reaches c i j = isAccepted (checked c) && ltb i (c .order) && ltb j (c .order) && via (rateIn c) (c .order) i j
 
@@ -42,6 +42,6 @@ pub record Hold (masks : List ℕ) (test : ℕ → ℕ → Bool) : Type 0 where
 
 -- what the masks mean
 pub record ReachMasks (c : Rows) (masks : List ℕ) : Type 0 where
-  pub reached : Sound c → (i j : ℕ) → i < c .order → j < c .order → (bits masks i j ≡ true) ↔ Reaches (c .order) (rateIn c) i j
+  pub reached : Accepted c → (i j : ℕ) → i < c .order → j < c .order → (bits masks i j ≡ true) ↔ Reaches (c .order) (rateIn c) i j
   pub none-beyond : (i : ℕ) → c .order ≤ i → getD masks i 0 ≡ 0
-  pub none-refused : (Sound c → ⊥) → (i : ℕ) → getD masks i 0 ≡ 0
+  pub none-refused : (Accepted c → ⊥) → (i : ℕ) → getD masks i 0 ≡ 0

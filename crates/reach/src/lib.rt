@@ -9,7 +9,7 @@ ghost use Rattle.basics.specs.Below.{all};
 ghost use Rattle.basics.specs.First.{first};
 ghost use Rattle.refusal.specs.Table.{verdict};
 ghost use Rattle.chain.specs.Rows.{inRows};
-ghost use Rattle.chain.specs.Sound.{Sound};
+ghost use Rattle.chain.specs.Sound.{Sound, Accepted};
 ghost use Rattle.chain.specs.Meaning.{adds, rateIn};
 ghost use Rattle.reach.specs.Reach.{stands, bits, reaches, Hold, ReachMasks};
 ghost use Rattle.reach.specs.Inner.{viaBelow};
@@ -111,7 +111,7 @@ fn closure(n: usize, starts: &[u32], columns: &[u32], rates: &[u32]) -> Masks
     masks
 }
 
-// The states that each state reaches; no bit stands for a chain refused by 1 to 4.
+// The states that each state reaches; no bit stands for a chain refused by 1 to 4 or 14.
 pub fn reach_masks(n: usize, starts: &[u32], columns: &[u32], rates: &[u32]) -> Masks
     ensures bits { λ r. ⌜ Hold (r .rows) (reaches (inRows n (starts .entry) (columns .entry) (rates .entry))) ⌝ }
     ensures meaning { λ r. ⌜ ReachMasks (inRows n (starts .entry) (columns .entry) (rates .entry)) (r .rows) ⌝ }
@@ -191,7 +191,7 @@ fn next_lowest(rows: &[u64], from: usize, n: usize) -> usize
     i
 }
 
-// The verdict of 1 to 4 and 6, and the closed set of a chain that has an answer: bit i stands if state i is in it.
+// The verdict of 1 to 4, 14 and 6, and the closed set of a chain that has an answer: bit i stands if state i is in it.
 pub struct Answer {
     pub outcome: Outcome,
     pub set: u64,
@@ -218,9 +218,9 @@ fn answer_from(masks: Masks, n: usize, entries: usize) -> Answer
     }
 }
 
-// The verdict of `check_answer` where 1 to 4 were checked before, as `check_answer` and `solve` do, and the closed set.
+// The verdict of `check_answer` where 1 to 4 and 14 were checked before, as `check_answer` and `solve` do, and the closed set.
 pub fn find_answer(n: usize, starts: &[u32], columns: &[u32], rates: &[u32]) -> Answer
-    requires { ⌜ Sound (inRows n starts columns rates) ⌝ }
+    requires { ⌜ Accepted (inRows n starts columns rates) ⌝ }
     ensures computed { λ r. ⌜ verdict (r .outcome) ≡ answered (inRows n (starts .entry) (columns .entry) (rates .entry)) ⌝ }
     ensures meaning { λ r. ⌜ AnswerSays (inRows n (starts .entry) (columns .entry) (rates .entry)) (verdict (r .outcome)) ⌝ }
     ensures set { λ r. ⌜ ((i : ℕ) → i < n → stands (r .set) i ≡ setOf (inRows n (starts .entry) (columns .entry) (rates .entry)) i) ⌝ }
@@ -228,7 +228,7 @@ pub fn find_answer(n: usize, starts: &[u32], columns: &[u32], rates: &[u32]) -> 
     answer_from(closure(n, starts, columns, rates), n, columns.len())
 }
 
-// The first of 1 to 4 and 6 that applies, or the number of entries of a chain that has an answer.
+// The first of 1 to 4, 14 and 6 that applies, or the number of entries of a chain that has an answer.
 pub fn check_answer(n: usize, starts: &[u32], columns: &[u32], rates: &[u32]) -> Outcome
     ensures computed { λ r. ⌜ verdict r ≡ answered (inRows n (starts .entry) (columns .entry) (rates .entry)) ⌝ }
     ensures meaning { λ r. ⌜ AnswerSays (inRows n (starts .entry) (columns .entry) (rates .entry)) (verdict r) ⌝ }

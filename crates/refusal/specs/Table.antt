@@ -28,6 +28,7 @@ chainLine (chain.ClosedSets first second) = numbered 6 first second
 chainLine (chain.InNoRow state) = numbered 11 state 0
 chainLine (chain.InTwoRows state) = numbered 12 state 0
 chainLine (chain.TableRow row) = numbered 13 row 0
+chainLine (chain.ZeroRate row column) = numbered 14 row column
 
 -- the table, for stored bytes
 abbrev pub bytesLine : BytesReason → Line
@@ -36,6 +37,7 @@ bytesLine bytes.Room = numbered 5 0 0
 bytesLine bytes.Short = numbered 8 0 0
 bytesLine (bytes.Bit row bit) = numbered 9 row bit
 bytesLine bytes.Extra = numbered 10 0 0
+bytesLine (bytes.ZeroRate row column) = numbered 14 row column
 
 abbrev pub line : Refusal → Line
 line (Chain reason) = chainLine reason

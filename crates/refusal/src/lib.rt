@@ -17,6 +17,8 @@ pub enum ChainReason {
     InTwoRows(usize),
     // A bad row of the group table.
     TableRow(usize),
+    // Row, column.
+    ZeroRate(usize, usize),
 }
 
 // Why stored bytes are turned away.
@@ -27,6 +29,8 @@ pub enum BytesReason {
     // Row, bit.
     Bit(usize, usize),
     Extra,
+    // Row, column.
+    ZeroRate(usize, usize),
 }
 
 // A refusal says whether the chain or the stored bytes were at fault, with that side's own reason inside.
@@ -71,6 +75,7 @@ fn chain_line(reason: ChainReason) -> Line
         ChainReason::InNoRow(state) => table_line(11, state, 0),
         ChainReason::InTwoRows(state) => table_line(12, state, 0),
         ChainReason::TableRow(row) => table_line(13, row, 0),
+        ChainReason::ZeroRate(row, column) => table_line(14, row, column),
     }
 }
 
@@ -83,6 +88,7 @@ fn bytes_line(reason: BytesReason) -> Line
         BytesReason::Short => table_line(8, 0, 0),
         BytesReason::Bit(row, bit) => table_line(9, row, bit),
         BytesReason::Extra => table_line(10, 0, 0),
+        BytesReason::ZeroRate(row, column) => table_line(14, row, column),
     }
 }
 

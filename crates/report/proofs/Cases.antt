@@ -1,4 +1,4 @@
--- The texts that document 01 prints, and those of cases 6 and 7 and of refusal 6 as R-3 has them, byte by byte, by evaluation of the
+-- The texts that document 01 prints, that of case 7 and of refusal 6 as R-3 has them and of case 6 as R-5 has it, byte by byte, by evaluation of the
 -- definitions. Like the table of the worked cases, and unlike every other file above `scaled`, it unfolds the definitions of the
 -- operations on scaled numbers, since it states digits. Assumes nothing.
 use mathlib.Core.List.{List, [], _∷_}
@@ -17,7 +17,7 @@ use Rattle.scaled.specs.Units.{oneNumber}
 use Rattle.markov.specs.Closed.{size, member, alone, spread, setWeights, setShares}
 use Rattle.markov.specs.Elimination as elimination
 use Rattle.markov.specs.Count.{boundCount}
-use Rattle.chain.specs.Rules.{startsSound, entryBad, columnsChecked, checked}
+use Rattle.chain.specs.Rules.{startsSound, entryBad, columnsChecked, rulesChecked, zerosChecked, checked}
 use Rattle.chain.specs.Meaning.{rateIn}
 use Rattle.reach.specs.Reach.{via}
 use Rattle.reach.specs.ClosedSets.{settles, isLowest, firstLowest, secondLowest, lowestSet}
@@ -27,7 +27,8 @@ use Rattle.layout.specs.Bytes.{bitAt, storedRate}
 use Rattle.checking.specs.Verdict.{fileChecked, rowChecked, rateChecked}
 use Rattle.solver.specs.Solve.{entries, setSize, weightsOf, sharesOf, countOf, solved}
 use Rattle.decimal.specs.Decimal.{decimalDigits, decimal, signed}
-use Rattle.lines.specs.Lines.{headerLine, stateLine, stateLines, refusedLine}
+use Rattle.lines.specs.Lines.{headerLine, stateLine, stateLines}
+use Rattle.refused.specs.Refused.{refusedLine}
 use Rattle.report.specs.Report.{solvedText, reportOf, Printed}
 use Rattle.report.proofs.EndToEnd.{end-to-end}
 
@@ -40,7 +41,7 @@ cut-off = refl
 pub two-sets : reportOf (2 ∷ 0 ∷ 0 ∷ [])
     ≡ 114 ∷ 101 ∷ 102 ∷ 117 ∷ 115 ∷ 101 ∷ 100 ∷ 32 ∷ 54 ∷ 32 ∷ 48 ∷ 32 ∷ 49 ∷ 10 ∷ []
 unfolding reportOf solvedText solved fileChecked rowChecked bitAt
-    checked startsSound columnsChecked rateIn answered oneClosed firstLowest secondLowest isLowest settles all via sum
+    checked rulesChecked startsSound columnsChecked zerosChecked rateIn answered oneClosed firstLowest secondLowest isLowest settles all via sum
     refusedLine decimal decimalDigits
 two-sets = refl
 
@@ -57,35 +58,35 @@ unfolding reportOf solvedText headerLine stateLine stateLines signed decimal dec
     size member alone spread setWeights setShares count
     elimination.weights elimination.shares elimination.total elimination.pivotOf elimination.quotientAt
     bitLengthUpTo bitLength isScaledAt upward carried nearest roundedSum roundedProduct roundedQuotient converted sumOf productOf quotientOf rateOf
-    all boundCount checked startsSound columnsChecked entryBad rateIn via sum
+    all boundCount checked rulesChecked startsSound columnsChecked entryBad zerosChecked rateIn via sum
     answered oneClosed setOf firstLowest secondLowest lowestSet isLowest settles
     bitAt storedRate fileChecked rowChecked rateChecked
 printed = refl
 
--- "cases 6 and 7 are now accepted". Case 6, "n = 2, 0 to 1 rate 0, 1 to 0 rate 5": "states 2 bound 0",
--- "0 2147483648 -31 2147483648 -31" and "1 0 0 0 0". Case 7, "n = 3, 0 to 1 and 1 to 0 and 2 to 0, all rate 1": "states 3 bound 8",
--- "0 2147483648 -31 2147483648 -32", "1 2147483648 -31 2147483648 -32" and "2 0 0 0 0"
-pub zero-outside : (reportOf (2 ∷ 2 ∷ 0 ∷ 0 ∷ 0 ∷ 0 ∷ 1 ∷ 5 ∷ 0 ∷ 0 ∷ 0 ∷ [])
-    ≡ 115 ∷ 116 ∷ 97 ∷ 116 ∷ 101 ∷ 115 ∷ 32 ∷ 50 ∷ 32 ∷ 98 ∷ 111 ∷ 117 ∷ 110 ∷ 100 ∷ 32 ∷ 48 ∷ 10
-    ∷ 48 ∷ 32 ∷ 50 ∷ 49 ∷ 52 ∷ 55 ∷ 52 ∷ 56 ∷ 51 ∷ 54 ∷ 52 ∷ 56 ∷ 32 ∷ 45 ∷ 51 ∷ 49
-    ∷ 32 ∷ 50 ∷ 49 ∷ 52 ∷ 55 ∷ 52 ∷ 56 ∷ 51 ∷ 54 ∷ 52 ∷ 56 ∷ 32 ∷ 45 ∷ 51 ∷ 49 ∷ 10
-    ∷ 49 ∷ 32 ∷ 48 ∷ 32 ∷ 48 ∷ 32 ∷ 48 ∷ 32 ∷ 48 ∷ 10 ∷ [])
-    × (reportOf (3 ∷ 2 ∷ 1 ∷ 0 ∷ 0 ∷ 0 ∷ 1 ∷ 1 ∷ 0 ∷ 0 ∷ 0 ∷ 1 ∷ 1 ∷ 0 ∷ 0 ∷ 0 ∷ [])
+-- "Case 6 becomes 14, (0, 1)": bytes 02 02 00 00 00 00 01 05 00 00 00 print "refused 14 0 1"
+pub zero-rate : reportOf (2 ∷ 2 ∷ 0 ∷ 0 ∷ 0 ∷ 0 ∷ 1 ∷ 5 ∷ 0 ∷ 0 ∷ 0 ∷ [])
+    ≡ 114 ∷ 101 ∷ 102 ∷ 117 ∷ 115 ∷ 101 ∷ 100 ∷ 32 ∷ 49 ∷ 52 ∷ 32 ∷ 48 ∷ 32 ∷ 49 ∷ 10 ∷ []
+unfolding reportOf fileChecked rowChecked rateChecked bitAt storedRate refusedLine decimal decimalDigits
+zero-rate = refl
+
+-- case 7, "n = 3, 0 to 1 and 1 to 0 and 2 to 0, all rate 1", as R-3 has it: "states 3 bound 8", "0 2147483648 -31 2147483648 -32",
+-- "1 2147483648 -31 2147483648 -32" and "2 0 0 0 0"
+pub zero-outside : reportOf (3 ∷ 2 ∷ 1 ∷ 0 ∷ 0 ∷ 0 ∷ 1 ∷ 1 ∷ 0 ∷ 0 ∷ 0 ∷ 1 ∷ 1 ∷ 0 ∷ 0 ∷ 0 ∷ [])
     ≡ 115 ∷ 116 ∷ 97 ∷ 116 ∷ 101 ∷ 115 ∷ 32 ∷ 51 ∷ 32 ∷ 98 ∷ 111 ∷ 117 ∷ 110 ∷ 100 ∷ 32 ∷ 56 ∷ 10
     ∷ 48 ∷ 32 ∷ 50 ∷ 49 ∷ 52 ∷ 55 ∷ 52 ∷ 56 ∷ 51 ∷ 54 ∷ 52 ∷ 56 ∷ 32 ∷ 45 ∷ 51 ∷ 49
     ∷ 32 ∷ 50 ∷ 49 ∷ 52 ∷ 55 ∷ 52 ∷ 56 ∷ 51 ∷ 54 ∷ 52 ∷ 56 ∷ 32 ∷ 45 ∷ 51 ∷ 50 ∷ 10
     ∷ 49 ∷ 32 ∷ 50 ∷ 49 ∷ 52 ∷ 55 ∷ 52 ∷ 56 ∷ 51 ∷ 54 ∷ 52 ∷ 56 ∷ 32 ∷ 45 ∷ 51 ∷ 49
     ∷ 32 ∷ 50 ∷ 49 ∷ 52 ∷ 55 ∷ 52 ∷ 56 ∷ 51 ∷ 54 ∷ 52 ∷ 56 ∷ 32 ∷ 45 ∷ 51 ∷ 50 ∷ 10
-    ∷ 50 ∷ 32 ∷ 48 ∷ 32 ∷ 48 ∷ 32 ∷ 48 ∷ 32 ∷ 48 ∷ 10 ∷ [])
+    ∷ 50 ∷ 32 ∷ 48 ∷ 32 ∷ 48 ∷ 32 ∷ 48 ∷ 32 ∷ 48 ∷ 10 ∷ []
 unfolding reportOf solvedText headerLine stateLine stateLines signed decimal decimalDigits
     solved weightsOf sharesOf countOf setSize entries plus times dividedBy oneNumber
     size member alone spread setWeights setShares count
     elimination.weights elimination.shares elimination.total elimination.pivotOf elimination.quotientAt
     bitLength isScaledAt upward carried nearest roundedSum roundedProduct roundedQuotient converted sumOf productOf quotientOf rateOf
-    all boundCount checked startsSound columnsChecked entryBad rateIn via sum
+    all boundCount checked rulesChecked startsSound columnsChecked entryBad zerosChecked rateIn via sum
     answered oneClosed setOf firstLowest secondLowest lowestSet isLowest settles
     bitAt storedRate fileChecked rowChecked rateChecked
-zero-outside = (refl, refl)
+zero-outside = refl
 
 -- ---- the closing theorem, of the bytes of `printed`
 
@@ -102,6 +103,7 @@ two-fits i = go (decLt i 11)
 
 -- its closed set has both states: what is printed for them lies within 8 and 18 factors of exact weights that balance the chain
 pub printed-bounds : Printed two 8
-unfolding solved countOf setSize size count fileChecked rowChecked rateChecked bitAt storedRate checked startsSound columnsChecked entryBad rateIn
+unfolding solved countOf setSize size count fileChecked rowChecked rateChecked bitAt storedRate
+    checked rulesChecked startsSound columnsChecked entryBad zerosChecked rateIn
     answered oneClosed setOf firstLowest secondLowest lowestSet isLowest settles all via sum boundCount
 printed-bounds = end-to-end two two-fits {e = 2} {K = 8} refl refl

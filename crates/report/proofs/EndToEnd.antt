@@ -16,6 +16,7 @@ use Rattle.chain.specs.Meaning.{rateIn}
 use Rattle.reach.specs.Answer.{answered, setOf}
 use Rattle.reach.proofs.AnswerLaws.{accepted-answer, answer-set}
 use Rattle.layout.specs.Bytes.{mapBytes, storedCount, storedRate, ratesAt, storedRates, rowEnd, ratesIn, chainOf}
+use Rattle.checking.specs.Sound.{zerosRefused}
 use Rattle.checking.specs.Verdict.{fileChecked}
 use Rattle.solver.specs.Solve.{countOf, solved}
 use Rattle.solver.proofs.Demands.{balancing, accurate}
@@ -45,6 +46,9 @@ module _ (bytes : List ℕ) (fit : (i : ℕ) → getD bytes i 0 < 256) where
       small-append 4294967296 (storedRates bytes n map) (ratesIn bytes n k (rowEnd bytes n map))
       (rates-small (storedCount bytes n map) (map + mapBytes n)) (rows-small n k (rowEnd bytes n map)) i
 
+  pub rates-fit : (i : ℕ) → getD (chainOf bytes .rates) i 0 < 4294967296
+  rates-fit = rows-small (chainOf bytes .order) (chainOf bytes .order) 1
+
 -- ---- the text
 
 -- a chain that solving accepts, where the lent slices suffice
@@ -55,10 +59,10 @@ admitted c {K} h =
     let a = accepted-then (answered c) (λ _. accepts (countOf c)) K (r .2) in
     let e : _≡_ {A = ℕ} K (countOf c) = (let q = a .2 in cc) in
     let s = accepted-answer c (a .1) in
-    (s .0, answer-set c (s .0) (s .1), e)
+    (s .0 .sound, answer-set c (s .0 .sound) (s .1), e)
 
 -- for every file of bytes that the program accepts
-pub end-to-end : (bytes : List ℕ) → ((i : ℕ) → getD bytes i 0 < 256) → {e K : ℕ} → fileChecked bytes ≡ accepts e → solved (chainOf bytes) true ≡ accepts K
+pub end-to-end : (bytes : List ℕ) → ((i : ℕ) → getD bytes i 0 < 256) → {e K : ℕ} → fileChecked zerosRefused bytes ≡ accepts e → solved (chainOf bytes) true ≡ accepts K
     → Printed bytes K
 unfolding reportOf solvedText
 end-to-end bytes fit {K = K} p q =
@@ -70,5 +74,5 @@ end-to-end bytes fit {K = K} p q =
       count = a .2;
       the-set = a .1;
       balances = balancing n (rateIn c) (a .1);
-      bounds = rw (a .2) (accurate c (a .1 .closed) (all-fit (a .0) (rows-small bytes fit n n 1) (a .1 .closed)));
+      bounds = rw (a .2) (accurate c (a .1 .closed) (all-fit (a .0) (rates-fit bytes fit) (a .1 .closed)));
     }

@@ -2,11 +2,11 @@
 use Prim.Native.Nat.{ℕ, _≤_, _<_}
 use mathlib.Core.Bool.{true}
 use mathlib.Core.List.{List, _++_}
-use mathlib.Core.Path.{_≡_, refl, sym, ap, _∙_}
+use mathlib.Core.Path.{_≡_, sym, ap, _∙_}
 use native.Mathlib.Omega.{arith}
 use borrow.Author.Tests.{le-leb, lt-leb}
 use lib.ListN.{length, getD}
-use Rattle.refusal.specs.Table.{Verdict, side, line, accepts, refuses, refusal, verdict}
+use Rattle.refusal.specs.Table.{line, accepts, refusal, verdict}
 use Rattle.refusal.specs.declared.Outcome.{Outcome}
 use Rattle.refusal.specs.declared.Outcome.the-variants as outcome
 use Rattle.refusal.specs.declared.Refusal.{Refusal}
@@ -18,16 +18,16 @@ use Rattle.storage.specs.declared.Reading.{Reading}
 use Rattle.storage.specs.declared.Reading.the-variants as reading
 use Rattle.storage.specs.Reading.{Stored, told, Read}
 use Rattle.layout.specs.Buffers.{Buffers, chainIn}
-use Rattle.checking.specs.Verdict.{fileChecked}
-use Rattle.storage.proofs.Passes.{file-few}
-use Rattle.storage.proofs.RoundTrips.{read-always}
+use Rattle.checking.specs.Sound.{zerosRefused}
+use Rattle.storage.proofs.RoundTrips.{file-refused}
 use Rattle.solver.specs.Lent.{Lent, Roomy}
 use Rattle.solver.specs.Solve.{weightsOf, sharesOf, solved, Solvable, Solved}
 use Rattle.solver.proofs.Room.{roomy-held}
 use Rattle.solver.proofs.Acceptance.{accepted-solvable, solvable-accepted}
 use Rattle.decimal.specs.Put.{Puts}
-use Rattle.lines.specs.Lines.{headerLine, answerLines, refusedLine}
-use Rattle.report.specs.Report.{longest, solvedText, textAfter, reportOf, Reports}
+use Rattle.lines.specs.Lines.{headerLine, answerLines}
+use Rattle.refused.specs.Refused.{refusedLine, longestRefused}
+use Rattle.report.specs.Report.{longest, solvedText, reportOf, Reports}
 use Rattle.report.proofs.EndToEnd.{end-to-end}
 use Rattle.report.proofs.Input.{input-suffices}
 use Rattle.report.proofs.Lengths.{answer-length}
@@ -55,12 +55,12 @@ module _ {c : Rows} {old new : Lent} {r : Outcome} (s : Solved c old r new) (roo
   verdict-is = rw (roomy-held (c .order) old room) at (s .answer)
 
   -- a refused one
-  pub put-stopped : {f : Refusal} → r ≡ outcome.Refused f → {out after : List ℕ} {count : ℕ} → Puts out 0 (refusedLine (line f)) after count × (count ≤ longest)
+  pub put-stopped : {f : Refusal} → r ≡ outcome.Refused f → {out after : List ℕ} {count : ℕ} → Puts out 0 (refusedLine (line f)) after count × (count ≤ longestRefused)
       → Puts out 0 (solvedText c) after count × (count ≤ longest)
   unfolding solvedText
   put-stopped {f} q p =
       let v : solved c true ≡ refusal f = sym verdict-is ∙ ap verdict q in
-      rw v p
+      rw v (p .0, omega (arith, p .1))
 
   module _ {K : ℕ} (q : r ≡ outcome.Done K) where
     accepted : verdict r ≡ accepts K
@@ -81,7 +81,7 @@ module _ {c : Rows} {old new : Lent} {r : Outcome} (s : Solved c old r new) (roo
     unfolding solvedText
     short =
         let v = rw (roomy-held (c .order) old room) at (solvable-accepted c old solvable) in
-        rw v (answer-length c (solvable .sound) (s .in-range K accepted))
+        rw v (answer-length c (solvable .accepted .sound) (s .in-range K accepted))
 
     -- an accepted chain: its text has room, and is what was put
     pub answer-room : length (answerLines (c .order) K (numberAt (new .weights)) (numberAt (new .shares))) ≤ longest
@@ -116,35 +116,18 @@ module _ {bytes : List ℕ} (small : (i : ℕ) → getD bytes i 0 < 256) where
   }
 
 -- a reading into slices that have room for every chain
-module _ {bytes : List ℕ} {old new : Buffers} {r : Reading} (d : Read bytes old r new)
+module _ {bytes : List ℕ} {old new : Buffers} {r : Reading} (d : Read zerosRefused bytes old r new)
     (a : length (old .starts) ≡ 65) (b : length (old .columns) ≡ 4032) (c : length (old .rates) ≡ 4032) where
   pub unread-text : {f : Refusal} → r ≡ reading.Refused f → refusedLine (line f) ≡ reportOf bytes
   unfolding reportOf
-  unread-text {f} q = go (fileChecked bytes) refl
-    where
-      told-is : told r ≡ refusal f
-      told-is = ap told q
-
-      go : (v : Verdict ℕ) → fileChecked bytes ≡ v → refusedLine (line f) ≡ textAfter bytes v
-      go (refuses s l) p =
-          let e : _≡_ {A = Verdict (ℕ × ℕ)} (refuses s l) (refuses (side f) (line f)) =
-          read-always bytes (refuses s l) p ∙ sym (rw (a, b, c) at (d .answer)) ∙ told-is in
-          let e′ : l ≡ line f = cc in
-          rw e′
-      go (accepts k) p =
-          let e = read-always bytes (accepts k) p ∙ sym (rw (a, b, c) at (d .answer)) ∙ told-is in
-          let z : _≡_ {A = ℕ} 0 1 = cc in
-          absurd (omega arith)
+  unread-text q = rw (file-refused d a b c q)
 
   module _ {n entries : ℕ} (q : r ≡ reading.Chain n entries) where
-    left : Stored (chainIn new n entries) entries bytes
+    left : Stored zerosRefused (chainIn new n entries) entries bytes
     left = d .stored n entries (ap told q)
 
     pub order-low : n ≤ 64
     order-low = accepted-sound (chainIn new n entries) (left .passes) .order .high
-
-    pub entries-low : entries ≤ 4032
-    entries-low = file-few bytes entries (left .accepted)
 
     pub read-text : solvedText (chainIn new n entries) ≡ reportOf bytes
     unfolding reportOf

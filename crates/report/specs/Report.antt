@@ -13,9 +13,11 @@ use Rattle.chain.specs.Rows.{Rows}
 use Rattle.chain.specs.Meaning.{rateIn}
 use Rattle.reach.specs.Answer.{setOf}
 use Rattle.layout.specs.Bytes.{chainOf}
+use Rattle.checking.specs.Sound.{zerosRefused}
 use Rattle.checking.specs.Verdict.{fileChecked}
 use Rattle.solver.specs.Solve.{weightsOf, sharesOf, countOf, solved, Balancing, Accurate}
-use Rattle.lines.specs.Lines.{answerLines, refusedLine}
+use Rattle.lines.specs.Lines.{answerLines}
+use Rattle.refused.specs.Refused.{refusedLine}
 
 -- the text for a chain that solving accepts with bound count K, or refuses: the first line names the whole order, and a state outside
 -- the closed set has a line too, with Zero, printed as "0 0", for its weight and its share
@@ -34,7 +36,7 @@ textAfter bytes (refuses side line) = refusedLine line
 
 -- "It reads one stored chain": the text for any bytes
 unfoldable pub reportOf : List ℕ → List ℕ
-reportOf bytes = textAfter bytes (fileChecked bytes)
+reportOf bytes = textAfter bytes (fileChecked zerosRefused bytes)
 
 -- "at most 16,642 bytes suffice": one more than the longest file
 abbrev pub enoughBytes : ℕ
@@ -60,5 +62,5 @@ pub record Reports (bytes out after : List ℕ) (count : ℕ) : Type 0 where
   pub out-is : after ≡ cond (leb longest (length out)) (sets out 0 (reportOf bytes)) out
   pub count-is : count ≡ cond (leb longest (length out)) (length (reportOf bytes)) 0
   pub within : count ≤ longest
-  pub printed : {e K : ℕ} → fileChecked bytes ≡ accepts e → solved (chainOf bytes) true ≡ accepts K → Printed bytes K
+  pub printed : {e K : ℕ} → fileChecked zerosRefused bytes ≡ accepts e → solved (chainOf bytes) true ≡ accepts K → Printed bytes K
   pub suffices : reportOf (take enoughBytes bytes) ≡ reportOf bytes

@@ -1,24 +1,12 @@
 // What the printing program prints for any bytes, put at the front of a lent buffer.
 ghost use Prim.Native.Nat.{_≤_, _<_};
 ghost use lib.ListN.{length};
-ghost use Rattle.refusal.specs.Table.{line};
 ghost use Rattle.chain.specs.Rows.{inRows};
 ghost use Rattle.layout.specs.Buffers.{inBuffers, chainIn};
 ghost use Rattle.decimal.specs.Put.{Puts};
-ghost use Rattle.lines.specs.Lines.{refusedLine};
 ghost use Rattle.report.specs.Report.{longest, solvedText, Reports};
 use refusal::Outcome;
-use refusal::Refusal;
 use storage::Reading;
-
-// "refused", its number, its two places.
-fn put_refusal(out: &mut [u8], refusal: Refusal) -> usize
-    requires { ⌜ longest ≤ length (now out) ⌝ }
-    ensures { λ r. ⌜ (Puts (now (out .entry)) 0 (refusedLine (line refusal)) (now (out .exit)) r) × (r ≤ longest) ⌝ }
-{
-    let line = refusal::listed(refusal);
-    lines::put_refused(out, 0, line)
-}
 
 // The text for a chain: its weights and shares, or the refusal of solving.
 fn put_solved(out: &mut [u8], order: usize, starts: &[u32], columns: &[u32], rates: &[u32]) -> usize
@@ -44,7 +32,7 @@ fn put_solved(out: &mut [u8], order: usize, starts: &[u32], columns: &[u32], rat
         &mut se,
     ) {
         Outcome::Done(bound) => lines::put_answer(out, order, bound, &wm, &we, &sm, &se),
-        Outcome::Refused(refusal) => put_refusal(out, refusal),
+        Outcome::Refused(refusal) => refused::put_refusal(out, refusal),
     }
 }
 
@@ -84,6 +72,6 @@ pub fn report(bytes: &[u8], out: &mut [u8]) -> usize
         Reading::Chain { order, entries } => {
             put_chain(out, order, entries, &starts, &columns, &rates)
         }
-        Reading::Refused(refusal) => put_refusal(out, refusal),
+        Reading::Refused(refusal) => refused::put_refusal(out, refusal),
     }
 }

@@ -7,7 +7,7 @@ use native.Mathlib.Omega.{arith}
 use Rattle.refusal.specs.Table.{Verdict, accepts, refuses}
 use Rattle.chain.specs.Rows.{Rows}
 use Rattle.chain.specs.Rules.{checked}
-use Rattle.chain.proofs.Reading.{checked-says, accepted-sound, sound-accepted}
+use Rattle.chain.proofs.Reading.{checked-says, accepted-whole, sound-accepted}
 use Rattle.reach.specs.Answer.{answered, AnswerSays}
 use Rattle.reach.specs.Answer as reach
 use Rattle.reach.proofs.AnswerLaws.{answered-says, answer-accepted}
@@ -16,18 +16,18 @@ use Rattle.solver.specs.Solve.{countOf, solved, Solvable, SolveSays, rul
 use Rattle.solver.proofs.Room.{roomy, roomy-held}
 
 module _ (c : Rows) (l : Lent) where
-  -- from 1 to 4, to 5, to 6
+  -- from 1 to 4 and 14, to 5, to 6
   at-reach : {k : ℕ} {v : Verdict ℕ} → checked c ≡ accepts k → enoughIn (c .order) l ≡ true → answered c ≡ v → AnswerSays c v
       → SolveSays c l (solved c (enoughIn (c .order) l))
   unfolding solved
   at-reach q b e (reach.rule-broken h) = rw (q, b, e) (rule-broken h)
   at-reach q b e (reach.two-closed s h) = rw (q, b, e) (two-closed s (roomy _ l b) h)
-  at-reach q b e (reach.has-answer s h) = rw (q, b, e) (solves (record { sound = s; room = roomy _ l b; answer = h }))
+  at-reach q b e (reach.has-answer s h) = rw (q, b, e) (solves (record { accepted = s; room = roomy _ l b; answer = h }))
 
   at-room : {k : ℕ} → checked c ≡ accepts k → (b : Bool) → enoughIn (c .order) l ≡ b → SolveSays c l (solved c (enoughIn (c .order) l))
   unfolding solved
   at-room q true b = at-reach q b refl (answered-says c)
-  at-room q false b = rw (q, b) (no-room (accepted-sound c q) (λ r. false≢true (sym b ∙ roomy-held _ l r)))
+  at-room q false b = rw (q, b) (no-room (accepted-whole c q) (λ r. false≢true (sym b ∙ roomy-held _ l r)))
 
   at-rules : (v : Verdict ℕ) → checked c ≡ v → SolveSays c l (solved c (enoughIn (c .order) l))
   unfolding solved
@@ -40,7 +40,7 @@ module _ (c : Rows) (l : Lent) where
   -- accepted if and only if no refusal describes the input; the answer is then the bound count
   pub solvable-accepted : Solvable c l → solved c (enoughIn (c .order) l) ≡ accepts (countOf c)
   unfolding solved
-  solvable-accepted h = rw (sound-accepted c (h .sound), roomy-held _ l (h .room), answer-accepted c (h .sound) (h .answer))
+  solvable-accepted h = rw (sound-accepted c (h .accepted), roomy-held _ l (h .room), answer-accepted c (h .accepted) (h .answer))
 
   pub accepted-solvable : {k : ℕ} → solved c (enoughIn (c .order) l) ≡ accepts k → Solvable c l
   accepted-solvable {k} q = go (solved c (enoughIn (c .order) l)) solved-says q

@@ -1,4 +1,4 @@
--- 1 to 6: what `admit` answers at each of its ways out. Assumes nothing.
+-- 1 to 4, 14, 5 and 6: what `admit` answers at each of its ways out. Assumes nothing.
 use mathlib.Core.Bool.{Bool, true, false}
 use mathlib.Core.Path.{_≡_, sym, ap, _∙_}
 use Prim.Native.Nat.{ℕ, _<_}
@@ -31,7 +31,7 @@ module _ (c : Rows) (room : Bool) where
       never : (k : ℕ) → verdict r ≡ accepts k → ⊥
       never k a = let u : verdict r ≡ verdict (Refused f) = ap verdict t in let z : _≡_ {A = ℕ} 0 1 = cc in omega arith
 
-  -- 1 to 4
+  -- 1 to 4 and 14
   pub rules-refuse : {o r : Outcome} {f : Refusal} {mask : ℕ} → verdict o ≡ checked c → o ≡ Refused f → r ≡ o → Admitted c room r mask
   unfolding solved
   rules-refuse {f = f} q t e = let p : checked c ≡ refusal f = sym q ∙ ap verdict t in refuses-by (e ∙ t) (rw p)

@@ -10,7 +10,7 @@ use Rattle.markov.specs.Count.{boundCount}
 use Rattle.markov.specs.Elimination.{weights, shares}
 use Rattle.markov.proofs.WholeSet.{size-full, set-weights-full, set-shares-full, irreducible-full, irreducible-answer}
 use Rattle.chain.specs.Rows.{Rows}
-use Rattle.chain.specs.Sound.{Sound}
+use Rattle.chain.specs.Sound.{Accepted}
 use Rattle.chain.specs.Meaning.{rateIn}
 use Rattle.chain.proofs.Reading.{sound-accepted}
 use Rattle.reach.specs.Answer.{setOf}
@@ -18,13 +18,13 @@ use Rattle.reach.proofs.AnswerLaws.{answer-accepted, answer-set}
 use Rattle.kernel.specs.Numbers.{ops}
 use Rattle.solver.specs.Solve.{entries, setSize, weightsOf, sharesOf, countOf, solved}
 
-module _ (c : Rows) (s : Sound c) (h : Irreducible (c .order) (rateIn c)) where
+module _ (c : Rows) (s : Accepted c) (h : Irreducible (c .order) (rateIn c)) where
   pub answer-as-before : HasAnswer (c .order) (rateIn c)
-  answer-as-before = irreducible-answer h (s .order .low)
+  answer-as-before = irreducible-answer h (s .sound .order .low)
 
   -- the set has every state
   pub set-as-before : (i : ℕ) → i < c .order → setOf c i ≡ true
-  set-as-before = irreducible-full h (answer-set c s answer-as-before .closed)
+  set-as-before = irreducible-full h (answer-set c (s .sound) answer-as-before .closed)
 
   pub count-as-before : countOf c ≡ boundCount (c .order)
   unfolding countOf setSize

@@ -131,7 +131,7 @@ module _ {c : Rows} {old : Lent} {r : Outcome} (q : verdict r ≡ solved c (enou
     weights = weights-left;
     shares = shares-left;
     the-set = λ k p. o;
-    in-range = λ k p. ranges.in-range (h .sound) words (o .closed);
+    in-range = λ k p. ranges.in-range (h .accepted .sound) words (o .closed);
     balancing = λ set o. demands.balancing n _ o;
     accurate = λ k p.
         let b = a in
@@ -140,7 +140,7 @@ module _ {c : Rows} {old : Lent} {r : Outcome} (q : verdict r ≡ solved c (enou
         (accurate-cong (last-below (o .closed))
         (numbers-begin n (weightsOf c) (verdict r) (old .weights) (h .room .for-weights) a weights-left)
         (numbers-begin n (sharesOf c) (verdict r) (old .shares) (h .room .for-shares) a shares-left)
-        (demands.accurate c (o .closed) (ranges.all-fit (h .sound) words (o .closed))));
+        (demands.accurate c (o .closed) (ranges.all-fit (h .accepted .sound) words (o .closed))));
   }
     where
       n : ℕ
@@ -150,7 +150,7 @@ module _ {c : Rows} {old : Lent} {r : Outcome} (q : verdict r ≡ solved c (enou
       h = accepted-solvable c old (sym q ∙ ap verdict t)
 
       o : OnlyClosed n (rateIn c) (setOf c)
-      o = answer-set c (h .sound) (h .answer)
+      o = answer-set c (h .accepted .sound) (h .answer)
 
       a : verdict r ≡ accepts (countOf c)
       a = q ∙ solvable-accepted c old h
@@ -171,11 +171,11 @@ pub runnable : {c : Rows} {l : Lent} {set : ℕ → Bool} {r : ℕ} → Solvable
     → Weighable c set r × (Square (c .order) (cut (c .order * c .order) (l .work))
     × (Sized (c .order) (cut (c .order) (l .weights)) × Sized (c .order) (cut (c .order) (l .shares))))
 runnable {c} {l} h w same e =
-    let o = answer-set c (h .sound) (h .answer) .closed in
+    let o = answer-set c (h .accepted .sound) (h .answer) .closed in
     let z = places-cut (l .work) (h .room .for-work) in (
-      weighable same (h .sound) o (ranges.all-fit (h .sound) w o) e,
+      weighable same (h .accepted .sound) o (ranges.all-fit (h .accepted .sound) w o) e,
       (
-        record { order = h .sound .order .high; size-m = z .size-m; size-e = z .size-e },
+        record { order = h .accepted .sound .order .high; size-m = z .size-m; size-e = z .size-e },
         (places-cut (l .weights) (h .room .for-weights), places-cut (l .shares) (h .room .for-shares)),
       ),
     )

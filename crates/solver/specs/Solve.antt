@@ -1,4 +1,4 @@
--- Document 01, changed by R-3 and R-7: what solving answers, and what it leaves in every lent place, for any input.
+-- Document 01, changed by R-3, R-5 and R-7: what solving answers, and what it leaves in every lent place, for any input.
 use mathlib.Core.Bool.{Bool, true, false, cond}
 use mathlib.Core.Logic.{_≢_, _⊎_, _↔_}
 use mathlib.Core.Path.{_≡_}
@@ -22,7 +22,7 @@ use Rattle.scaled.specs.Scaled.{zeroNumber, isScaled, rateOf}
 use Rattle.scaled.specs.Units.{oneNumber, val, one, factor}
 use Rattle.chain.specs.Rows.{Rows}
 use Rattle.chain.specs.Rules.{checked}
-use Rattle.chain.specs.Sound.{Sound, Says}
+use Rattle.chain.specs.Sound.{Accepted, Says}
 use Rattle.chain.specs.Meaning.{rateIn}
 use Rattle.reach.specs.ClosedSets.{TwoClosed}
 use Rattle.reach.specs.Answer.{answered, setOf}
@@ -56,7 +56,7 @@ sharesOf c = setShares ops (c .order) (setOf c) (entries c)
 unfoldable pub countOf : Rows → ℕ
 countOf c = boundCount (setSize c)
 
--- Solving tries 1 to 6 in that order (document 01, changed by R-7): the first refusal, or the bound count
+-- Solving tries 1, 2, 3, 4, 14, 5, 6 in that order (document 01, changed by R-5 and R-7): the first refusal, or the bound count
 unfoldable pub solved : Rows → Bool → Verdict ℕ
 solved c room =
     andThen (checked c) (λ _.
@@ -80,17 +80,17 @@ afterIn v old new = pair (after v (old .m) (new .m)) (after v (old .e) (new .e))
 
 -- ---- demand 1: what each verdict says of the input
 
--- no refusal applies: the rules hold, the lent slices are long enough, and the chain has exactly one closed set
+-- no refusal applies: the rules hold and no rate is 0, the lent slices are long enough, and the chain has exactly one closed set
 pub record Solvable (c : Rows) (l : Lent) : Type 0 where
-  pub sound : Sound c
+  pub accepted : Accepted c
   pub room : Roomy (c .order) l
   pub answer : HasAnswer (c .order) (rateIn c)
 
 -- a refusal says that the refusals before it do not apply and that this one does; an acceptance that none does
 pub data SolveSays (c : Rows) (l : Lent) : Verdict ℕ → Type 0 where
   rule-broken : {side : Side} {line : Line} → Says c (refuses side line) → SolveSays c l (refuses side line)
-  no-room : Sound c → (Roomy (c .order) l → ⊥) → SolveSays c l (refuses of-chain (numbered 5 0 0))
-  two-closed : {i j : ℕ} → Sound c → Roomy (c .order) l → TwoClosed (c .order) (rateIn c) i j → SolveSays c l (refuses of-chain (numbered 6 i j))
+  no-room : Accepted c → (Roomy (c .order) l → ⊥) → SolveSays c l (refuses of-chain (numbered 5 0 0))
+  two-closed : {i j : ℕ} → Accepted c → Roomy (c .order) l → TwoClosed (c .order) (rateIn c) i j → SolveSays c l (refuses of-chain (numbered 6 i j))
   solves : Solvable c l → SolveSays c l (accepts (countOf c))
 
 -- ---- demand 2, for a chain with exactly one closed set

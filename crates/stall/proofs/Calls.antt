@@ -5,6 +5,7 @@ use Prim.Native.Nat.{ℕ}
 use Rattle.refusal.specs.declared.Outcome.{Outcome}
 use Rattle.refusal.specs.Table.{Verdict, verdict}
 use Rattle.chain.specs.Rows.{Rows}
+use Rattle.checking.specs.Sound.{zerosRefused}
 use Rattle.storage.specs.declared.Reading.{Reading}
 use Rattle.layout.specs.Buffers.{Buffers}
 use Rattle.storage.specs.Reading.{told, Read}
@@ -23,7 +24,7 @@ module _ {answer : List ℕ} {r : ℕ} {answer′ : List ℕ} where
       → CountTold (verdict o) answer r answer′ → GroupsCalled c table old answer r new answer′
   groups-called {o = o} s t = record { outcome = o; call = s; told = subst (λ (v : Verdict ℕ). CountTold v answer r answer′) (s .answer) t }
 
-  pub read-called : {bytes : List ℕ} {old : Buffers} {o : Reading} {new : Buffers} → Read bytes old o new → ReadingTold (told o) answer r answer′
+  pub read-called : {bytes : List ℕ} {old : Buffers} {o : Reading} {new : Buffers} → Read zerosRefused bytes old o new → ReadingTold (told o) answer r answer′
       → ReadCalled bytes old answer r new answer′
   read-called {o = o} s t = record { outcome = o; call = s; told = subst (λ (v : Verdict (ℕ × ℕ)). ReadingTold v answer r answer′) (s .answer) t }
 

@@ -7,6 +7,7 @@ use Rattle.refusal.specs.declared.Outcome.{Outcome}
 use Rattle.chain.specs.Rows.{Rows}
 use Rattle.storage.specs.declared.Reading.{Reading}
 use Rattle.layout.specs.Buffers.{Buffers}
+use Rattle.checking.specs.Sound.{zerosRefused}
 use Rattle.checking.specs.Verdict.{readVerdict}
 use Rattle.storage.specs.Reading.{Read}
 use Rattle.storage.specs.Writing.{writeVerdict, Written}
@@ -27,8 +28,8 @@ pub record GroupsCalled (c : Rows) (table : List ℕ) (old : GroupLent) (answer 
 
 pub record ReadCalled (bytes : List ℕ) (old : Buffers) (answer : List ℕ) (r : ℕ) (new : Buffers) (answer′ : List ℕ) : Type 0 where
   pub outcome : Reading
-  pub call : Read bytes old outcome new
-  pub told : ReadingTold (readVerdict bytes (length (old .starts)) (length (old .columns)) (length (old .rates))) answer r answer′
+  pub call : Read zerosRefused bytes old outcome new
+  pub told : ReadingTold (readVerdict zerosRefused bytes (length (old .starts)) (length (old .columns)) (length (old .rates))) answer r answer′
 
 pub record WriteCalled (c : Rows) (out answer : List ℕ) (r : ℕ) (out′ answer′ : List ℕ) : Type 0 where
   pub outcome : Outcome

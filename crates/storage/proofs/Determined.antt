@@ -1,5 +1,6 @@
 -- The contracts of `read` and `write` leave one verdict and one content of every lent place: a program that gives anything else breaks
 -- them. Assumes nothing.
+use mathlib.Core.Bool.{Bool}
 use mathlib.Core.List.{List}
 use mathlib.Core.Path.{_≡_, sym, _∙_}
 use Prim.Native.Nat.{ℕ}
@@ -11,7 +12,7 @@ use Rattle.storage.specs.Reading.{told, Read}
 use Rattle.layout.specs.Buffers.{Buffers, buffers}
 use Rattle.storage.specs.Writing.{Written}
 
-pub read-determined : {bytes : List ℕ} {old : Buffers} {r r₂ : Reading} {new new₂ : Buffers} → Read bytes old r new → Read bytes old r₂ new₂
+pub read-determined : {zeros : Bool} {bytes : List ℕ} {old : Buffers} {r r₂ : Reading} {new new₂ : Buffers} → Read zeros bytes old r new → Read zeros bytes old r₂ new₂
     → (told r ≡ told r₂) × (new ≡ new₂)
 read-determined {r = r} {r₂ = r₂} {new = new} {new₂ = new₂} a b =
     let v : told r ≡ told r₂ = a .answer ∙ sym (b .answer) in

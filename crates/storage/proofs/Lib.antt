@@ -5,6 +5,7 @@ pub mod ReadWrite
 pub mod WriteRead
 pub mod Passes
 pub mod Meaning
+pub mod ZeroRates
 pub mod Calls
 pub mod RoundTrips
 pub mod Determined

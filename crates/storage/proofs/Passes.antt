@@ -54,12 +54,13 @@ module _ (bytes : List ℕ) (n : ℕ) where
 
   -- ---- as many rates as columns
 
-  pub rates-count : (k map : ℕ) → length (columnsIn bytes n k map) ≡ length (ratesIn bytes n k map)
+  pub rates-more : (k map : ℕ) → length (ratesIn bytes n (suc k) map) ≡ storedCount bytes n map + length (ratesIn bytes n k (rowEnd bytes n map))
+  rates-more k map =
+      length-append (storedRates bytes n map) (ratesIn bytes n k (rowEnd bytes n map)) ∙ rw (length-rates-at bytes (storedCount bytes n map) (map + mapBytes n))
+
+  rates-count : (k map : ℕ) → length (columnsIn bytes n k map) ≡ length (ratesIn bytes n k map)
   rates-count zero map = refl
-  rates-count (suc k) map =
-      let r : length (ratesIn bytes n (suc k) map) ≡ storedCount bytes n map + length (ratesIn bytes n k (rowEnd bytes n map)) =
-      length-append (storedRates bytes n map) (ratesIn bytes n k (rowEnd bytes n map)) ∙ rw (length-rates-at bytes (storedCount bytes n map) (map + mapBytes n)) in
-      omega (arith, columns-more k map, rates-count k (rowEnd bytes n map))
+  rates-count (suc k) map = omega (arith, columns-more k map, rates-more k map, rates-count k (rowEnd bytes n map))
 
   -- ---- the columns: the q-th of those from a row on, at place p + q
 
@@ -68,7 +69,7 @@ module _ (bytes : List ℕ) (n : ℕ) where
     not-row : getD columns (place - p) 0 ≢ row
     above : begin < place → getD columns (place - 1 - p) 0 < getD columns (place - p) 0
 
-  module _ (row map next : ℕ) (r : RowIs bytes n row map next) where
+  module _ (zeros : Bool) (row map next : ℕ) (r : RowIs zeros bytes n row map next) where
     in-row : (q : ℕ) → q < storedCount bytes n map → (getD (storedColumns bytes n map) q 0 < n) × (getD (storedColumns bytes n map) q 0 ≢ row)
     in-row q h =
         let v = held (bitAt bytes map) (n - 0) 0 q h in
@@ -82,90 +83,91 @@ module _ (bytes : List ℕ) (n : ℕ) where
       go true t = absurd (bit-column bytes n row map clean row (omega arith) t .1 refl)
       go false t = omega (arith, holding-lt (bitAt bytes map) (n - 0) 0 row (omega arith) (omega arith) t)
 
-  rows-kept : (k row map p e : ℕ) → rowsChecked bytes n k row map p ≡ accepts e → (i place : ℕ) → i < k
-      → getD (startsIn bytes n k map p) i 0 ≤ place → place < getD (startsIn bytes n k map p) (suc i) 0
-      → EntryKept (columnsIn bytes n k map) (row + i) p (getD (startsIn bytes n k map p) i 0) place
-  rows-kept zero row map p e h i place l a b = absurd (omega arith)
-  rows-kept (suc k) row map p e h zero place l a b =
-      let s = row-of-file bytes n k row map p e h in
-      let c : place < p + storedCount bytes n map = rw (starts-head k (rowEnd bytes n map) (p + storedCount bytes n map)) at b in
-      let C = storedColumns bytes n map in
-      let D = columnsIn bytes n k (rowEnd bytes n map) in
-      let at : getD (columnsIn bytes n (suc k) map) (place - p) 0 ≡ getD (storedColumns bytes n map) (place - p) 0 =
-      List·getD-append C D 0 (place - p) (omega arith) in
-      let f = in-row row map (rowEnd bytes n map) (s .is) (place - p) (omega arith) in
-      let z : row + 0 ≡ row = omega arith in
-      rw z
-      (record {
-        below = rw at (f .0);
-        not-row = rw at (f .1);
-        above = λ m.
-            let v = held (bitAt bytes map) (n - 0) 0 (place - p) (omega arith) in
-            rw (at, List·getD-append C D 0 (place - 1 - p) (omega arith)) (v .above (place - 1 - p) (omega arith));
-      })
-  rows-kept (suc k) row map p e h (suc i) place l a b =
-      let s = row-of-file bytes n k row map p e h in
-      let C = storedColumns bytes n map in
-      let D = columnsIn bytes n k (rowEnd bytes n map) in
-      let p′ : ℕ = p + storedCount bytes n map in
-      let ih = rows-kept k (row + 1) (rowEnd bytes n map) (p + storedCount bytes n map) e (s .rest) i place (omega arith) a b in
-      let low = starts-low k (rowEnd bytes n map) (p + storedCount bytes n map) i (omega arith) in
-      let x : place - p ≡ storedCount bytes n map + (place - (p + storedCount bytes n map)) = omega arith in
-      let at : getD (columnsIn bytes n (suc k) map) (place - p) 0 ≡ getD (columnsIn bytes n k (rowEnd bytes n map)) (place - (p + storedCount bytes n map)) 0 =
-      rw x (getD-append-add C D (place - (p + storedCount bytes n map)) 0) in
-      let z : row + suc i ≡ row + 1 + i = omega arith in
-      rw z
-      (record {
-        below = rw at (ih .below);
-        not-row = rw at (ih .not-row);
-        above = λ m.
-            let y : place - 1 - p ≡ storedCount bytes n map + (place - 1 - (p + storedCount bytes n map)) = omega arith in
-            rw (at, y, getD-append-add C D (place - 1 - (p + storedCount bytes n map)) 0) (ih .above m);
-      })
+  module _ (zeros : Bool) where
+    rows-kept : (k row map p e : ℕ) → rowsChecked zeros bytes n k row map p ≡ accepts e → (i place : ℕ) → i < k
+        → getD (startsIn bytes n k map p) i 0 ≤ place → place < getD (startsIn bytes n k map p) (suc i) 0
+        → EntryKept (columnsIn bytes n k map) (row + i) p (getD (startsIn bytes n k map p) i 0) place
+    rows-kept zero row map p e h i place l a b = absurd (omega arith)
+    rows-kept (suc k) row map p e h zero place l a b =
+        let s = row-of-file zeros bytes n k row map p e h in
+        let c : place < p + storedCount bytes n map = rw (starts-head k (rowEnd bytes n map) (p + storedCount bytes n map)) at b in
+        let C = storedColumns bytes n map in
+        let D = columnsIn bytes n k (rowEnd bytes n map) in
+        let at : getD (columnsIn bytes n (suc k) map) (place - p) 0 ≡ getD (storedColumns bytes n map) (place - p) 0 =
+        List·getD-append C D 0 (place - p) (omega arith) in
+        let f = in-row zeros row map (rowEnd bytes n map) (s .is) (place - p) (omega arith) in
+        let z : row + 0 ≡ row = omega arith in
+        rw z
+        (record {
+          below = rw at (f .0);
+          not-row = rw at (f .1);
+          above = λ m.
+              let v = held (bitAt bytes map) (n - 0) 0 (place - p) (omega arith) in
+              rw (at, List·getD-append C D 0 (place - 1 - p) (omega arith)) (v .above (place - 1 - p) (omega arith));
+        })
+    rows-kept (suc k) row map p e h (suc i) place l a b =
+        let s = row-of-file zeros bytes n k row map p e h in
+        let C = storedColumns bytes n map in
+        let D = columnsIn bytes n k (rowEnd bytes n map) in
+        let p′ : ℕ = p + storedCount bytes n map in
+        let ih = rows-kept k (row + 1) (rowEnd bytes n map) (p + storedCount bytes n map) e (s .rest) i place (omega arith) a b in
+        let low = starts-low k (rowEnd bytes n map) (p + storedCount bytes n map) i (omega arith) in
+        let x : place - p ≡ storedCount bytes n map + (place - (p + storedCount bytes n map)) = omega arith in
+        let at : getD (columnsIn bytes n (suc k) map) (place - p) 0 ≡ getD (columnsIn bytes n k (rowEnd bytes n map)) (place - (p + storedCount bytes n map)) 0 =
+        rw x (getD-append-add C D (place - (p + storedCount bytes n map)) 0) in
+        let z : row + suc i ≡ row + 1 + i = omega arith in
+        rw z
+        (record {
+          below = rw at (ih .below);
+          not-row = rw at (ih .not-row);
+          above = λ m.
+              let y : place - 1 - p ≡ storedCount bytes n map + (place - 1 - (p + storedCount bytes n map)) = omega arith in
+              rw (at, y, getD-append-add C D (place - 1 - (p + storedCount bytes n map)) 0) (ih .above m);
+        })
 
-  -- ---- how many
+    -- ---- how many
 
-  rows-total : (k row map p e : ℕ) → rowsChecked bytes n k row map p ≡ accepts e → e ≡ p + length (columnsIn bytes n k map)
-  rows-total zero row map p e h =
-      let q : accepts p ≡ accepts e = accepted-if (eqb map (length bytes)) _ _ _ e h .1 in
-      let q′ : p ≡ e = cc in
-      omega arith
-  rows-total (suc k) row map p e h =
-      let s = row-of-file bytes n k row map p e h in
-      omega (arith, rows-total k (row + 1) (rowEnd bytes n map) (p + storedCount bytes n map) e (s .rest), columns-more k map)
+    rows-total : (k row map p e : ℕ) → rowsChecked zeros bytes n k row map p ≡ accepts e → e ≡ p + length (columnsIn bytes n k map)
+    rows-total zero row map p e h =
+        let q : accepts p ≡ accepts e = accepted-if (eqb map (length bytes)) _ _ _ e h .1 in
+        let q′ : p ≡ e = cc in
+        omega arith
+    rows-total (suc k) row map p e h =
+        let s = row-of-file zeros bytes n k row map p e h in
+        omega (arith, rows-total k (row + 1) (rowEnd bytes n map) (p + storedCount bytes n map) e (s .rest), columns-more k map)
 
-  rows-size : (k row map p e : ℕ) → rowsChecked bytes n k row map p ≡ accepts e → length bytes ≡ map + k * mapBytes n + 4 * length (columnsIn bytes n k map)
-  rows-size zero row map p e h =
-      let q : map ≡ length bytes = eqb-true _ _ (accepted-if (eqb map (length bytes)) _ _ _ e h .0) in
-      rw (zero-mul) (omega arith)
-  rows-size (suc k) row map p e h =
-      let s = row-of-file bytes n k row map p e h in
-      rw (suc-mul k (mapBytes n)) (omega (arith, rows-size k (row + 1) (rowEnd bytes n map) (p + storedCount bytes n map) e (s .rest), columns-more k map))
+    rows-size : (k row map p e : ℕ) → rowsChecked zeros bytes n k row map p ≡ accepts e → length bytes ≡ map + k * mapBytes n + 4 * length (columnsIn bytes n k map)
+    rows-size zero row map p e h =
+        let q : map ≡ length bytes = eqb-true _ _ (accepted-if (eqb map (length bytes)) _ _ _ e h .0) in
+        rw (zero-mul) (omega arith)
+    rows-size (suc k) row map p e h =
+        let s = row-of-file zeros bytes n k row map p e h in
+        rw (suc-mul k (mapBytes n)) (omega (arith, rows-size k (row + 1) (rowEnd bytes n map) (p + storedCount bytes n map) e (s .rest), columns-more k map))
 
-  rows-few : (d : ℕ) → n ≡ suc d → (k row map p e : ℕ) → row + k ≤ n → rowsChecked bytes n k row map p ≡ accepts e → length (columnsIn bytes n k map) ≤ k * d
-  rows-few d q zero row map p e l h = rw (zero-mul) (omega arith)
-  rows-few d q (suc k) row map p e l h =
-      let s = row-of-file bytes n k row map p e h in
-      rw (suc-mul k d)
-      (omega (
-        arith,
-        row-few row map (s .is .clean) (omega arith),
-        rows-few d q k (row + 1) (rowEnd bytes n map) (p + storedCount bytes n map) e (omega arith) (s .rest),
-        columns-more k map,
-      ))
+    rows-few : (d : ℕ) → n ≡ suc d → (k row map p e : ℕ) → row + k ≤ n → rowsChecked zeros bytes n k row map p ≡ accepts e → length (columnsIn bytes n k map) ≤ k * d
+    rows-few d q zero row map p e l h = rw (zero-mul) (omega arith)
+    rows-few d q (suc k) row map p e l h =
+        let s = row-of-file zeros bytes n k row map p e h in
+        rw (suc-mul k d)
+        (omega (
+          arith,
+          row-few row map (s .is .clean) (omega arith),
+          rows-few d q k (row + 1) (rowEnd bytes n map) (p + storedCount bytes n map) e (omega arith) (s .rest),
+          columns-more k map,
+        ))
 
 -- ---- a whole file
 
-module _ (bytes : List ℕ) (e : ℕ) (h : fileChecked bytes ≡ accepts e) where
+module _ (zeros : Bool) (bytes : List ℕ) (e : ℕ) (h : fileChecked zeros bytes ≡ accepts e) where
   pub file-entries : e ≡ length (chainOf bytes .columns)
-  file-entries = omega (arith, rows-total bytes (orderOf bytes) (orderOf bytes) 0 1 0 e (file-is bytes e h .rows))
+  file-entries = omega (arith, rows-total bytes (orderOf bytes) zeros (orderOf bytes) 0 1 0 e (file-is zeros bytes e h .rows))
 
   pub file-sound : Sound (chainOf bytes)
   file-sound =
       let n = orderOf bytes in
-      let r = file-is bytes e h .rows in
+      let r = file-is zeros bytes e h .rows in
       record {
-        order = file-is bytes e h .order;
+        order = file-is zeros bytes e h .order;
         lengths = rates-count bytes (orderOf bytes) (orderOf bytes) 1;
         starts-rule = record {
           count = starts-count bytes n n 1 0;
@@ -175,7 +177,7 @@ module _ (bytes : List ℕ) (e : ℕ) (h : fileChecked bytes ≡ accepts e) wher
         };
         columns-rule = record {
           entry = λ row place l a b.
-              let k = rows-kept bytes n n 0 1 0 e r row place l a (rw (add-one row) at b) in
+              let k = rows-kept bytes n zeros n 0 1 0 e r row place l a (rw (add-one row) at b) in
               record {
                 below = rw sub-zero at (k .below);
                 not-row = rw (sub-zero, zero-add row) at (k .not-row);
@@ -186,19 +188,19 @@ module _ (bytes : List ℕ) (e : ℕ) (h : fileChecked bytes ≡ accepts e) wher
 
   -- "a file has 1 + n × (map bytes) + 4 × (entries) bytes"
   pub file-size : length bytes ≡ fileSize (orderOf bytes) e
-  file-size = omega (arith, file-entries, rows-size bytes (orderOf bytes) (orderOf bytes) 0 1 0 e (file-is bytes e h .rows))
+  file-size = omega (arith, file-entries, rows-size bytes (orderOf bytes) zeros (orderOf bytes) 0 1 0 e (file-is zeros bytes e h .rows))
 
   -- a chain of 64 states has at most 64 × 63 entries
   pub file-few : e ≤ 4032
   file-few =
       let n = orderOf bytes in
-      let o = file-is bytes e h .order in
+      let o = file-is zeros bytes e h .order in
       let c : length (chainOf bytes .columns) ≤ n * (n - 1) =
-      rows-few bytes n (n - 1) (omega (arith, o .low)) n 0 1 0 e (omega arith) (file-is bytes e h .rows) in
+      rows-few bytes n zeros (n - 1) (omega (arith, o .low)) n 0 1 0 e (omega arith) (file-is zeros bytes e h .rows) in
       let o′ : n - 1 ≤ 63 = omega (arith, o .high) in
       let m : n * (n - 1) ≤ 64 * 63 = mul-le-mul (o .high) o′ in
       omega (arith, file-entries, c, m)
 
   -- "at most 16,641"
   pub file-small : length bytes ≤ 16641
-  file-small = omega (arith, file-size, file-few, maps-le (orderOf bytes) (file-is bytes e h .order .high))
+  file-small = omega (arith, file-size, file-few, maps-le (orderOf bytes) (file-is zeros bytes e h .order .high))

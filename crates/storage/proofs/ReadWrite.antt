@@ -47,7 +47,7 @@ module _ (bytes : List ℕ) (n row map : ℕ) (clean : ltb (firstBadBit bytes n 
       go true t = has-in (bitAt bytes map) (n - 0) 0 j (omega arith) (omega (arith, ltb-true j n t))
       go false t = has-out (bitAt bytes map) (n - 0) 0 j (inr (omega (arith, ltb-false j n t))) ∙ sym (bit-clear j b (ltb-false j n t))
 
-module _ (bytes : List ℕ) (n row map next : ℕ) (r : RowIs bytes n row map next) where
+module _ (zeros : Bool) (bytes : List ℕ) (n row map next : ℕ) (r : RowIs zeros bytes n row map next) where
   row-back : ((i : ℕ) → getD bytes i 0 < 256) → rowBytes n (storedColumns bytes n map) (storedRates bytes n map) ++ drop (rowEnd bytes n map) bytes ≡ drop map bytes
   row-back small =
       let c = storedCount bytes n map in
@@ -65,14 +65,14 @@ rows-cons : (bytes : List ℕ) (n k map p a : ℕ) (cs rs : List ℕ)
 rows-cons bytes n zero map p a cs rs = refl
 rows-cons bytes n (suc k) map p a cs rs = refl
 
-module _ (bytes : List ℕ) (small : (i : ℕ) → getD bytes i 0 < 256) (n : ℕ) where
-  rows-back : (k row map p e : ℕ) → rowsChecked bytes n k row map p ≡ accepts e
+module _ (zeros : Bool) (bytes : List ℕ) (small : (i : ℕ) → getD bytes i 0 < 256) (n : ℕ) where
+  rows-back : (k row map p e : ℕ) → rowsChecked zeros bytes n k row map p ≡ accepts e
       → rowsBytes n (startsIn bytes n k map p) (columnsIn bytes n k map) (ratesIn bytes n k map) ≡ drop map bytes
   rows-back zero row map p e h =
       let q : map ≡ length bytes = eqb-true _ _ (accepted-if (eqb map (length bytes)) _ _ _ e h .0) in
       rw q (sym (drop-length bytes))
   rows-back (suc k) row map p e h =
-      let s = row-of-file bytes n k row map p e h in
+      let s = row-of-file zeros bytes n k row map p e h in
       let d : p + storedCount bytes n map - p ≡ storedCount bytes n map = omega arith in
       let w : length (storedRates bytes n map) ≡ storedCount bytes n map = length-rates-at bytes (storedCount bytes n map) (map + mapBytes n) in
       rows-cons bytes n k (rowEnd bytes n map) (p + storedCount bytes n map) p _ _
@@ -84,11 +84,11 @@ module _ (bytes : List ℕ) (small : (i : ℕ) → getD bytes i 0 < 256) (n : �
         drop-at _ (ratesIn bytes n k (rowEnd bytes n map)) (storedCount bytes n map) w,
         rows-back k (row + 1) (rowEnd bytes n map) (p + storedCount bytes n map) e (s .rest),
       )
-      (row-back bytes n row map (rowEnd bytes n map) (s .is) small)
+      (row-back zeros bytes n row map (rowEnd bytes n map) (s .is) small)
 
 -- the file of the chain that an accepted file holds is that file
-pub read-write : (bytes : List ℕ) → ((i : ℕ) → getD bytes i 0 < 256) → (e : ℕ) → fileChecked bytes ≡ accepts e
+pub read-write : (zeros : Bool) (bytes : List ℕ) → ((i : ℕ) → getD bytes i 0 < 256) → (e : ℕ) → fileChecked zeros bytes ≡ accepts e
     → fileOf (chainOf bytes) ≡ bytes
-read-write bytes small e h =
-    let f = file-is bytes e h in
-    rw (rows-back bytes small (orderOf bytes) (orderOf bytes) 0 1 0 e (f .rows)) (sym (drop-cons bytes 0 0 (f .some)))
+read-write zeros bytes small e h =
+    let f = file-is zeros bytes e h in
+    rw (rows-back zeros bytes small (orderOf bytes) (orderOf bytes) 0 1 0 e (f .rows)) (sym (drop-cons bytes 0 0 (f .some)))

@@ -1,22 +1,28 @@
 -- A chain written and read again is that chain, and an accepted file read and written again is that file; no reading into slices that
 -- have room for every chain is refused by 5. Assumes nothing.
-use Prim.Native.Nat.{ℕ}
-use mathlib.Core.Bool.{true}
+use Prim.Native.Nat.{ℕ, _≤_}
+use mathlib.Core.Bool.{Bool, true}
 use mathlib.Core.List.{List}
-use mathlib.Core.Path.{_≡_, sym, ap, _∙_}
+use mathlib.Core.Path.{_≡_, refl, sym, ap, _∙_}
 use native.Mathlib.Omega.{arith}
 use lib.Dec.{leb}
 use lib.ListN.{length, take}
 use borrow.Author.Tests.{le-leb}
 use Rattle.chain.specs.Rows.{Rows}
-use Rattle.refusal.specs.Table.{Verdict, accepts, refuses, verdict, andThen}
+use Rattle.refusal.specs.Table.{Verdict, accepts, refuses, side, line, refusal, verdict, andThen}
+use Rattle.refusal.specs.declared.Refusal.{Refusal}
 use Rattle.layout.specs.Bytes.{orderOf}
 use Rattle.layout.specs.File.{fileSize}
-use Rattle.storage.specs.Reading.{told}
+use Rattle.layout.specs.Buffers.{Buffers}
+use Rattle.storage.specs.declared.Reading.{Reading}
+use Rattle.storage.specs.declared.Reading.the-variants as reading
+use Rattle.storage.specs.Reading.{told, Read}
+use Rattle.checking.specs.Sound.{zerosRefused}
 use Rattle.checking.specs.Verdict.{fileChecked, readVerdict, HasRoom}
 use Rattle.storage.specs.Writing.{writeVerdict}
 use Rattle.storage.specs.RoundTrips.{WriteThenRead, ReadThenWrite}
-use Rattle.checking.proofs.Answers.{room-is, file-is, read-room}
+use Rattle.checking.proofs.Answers.{room-is, file-is}
+use Rattle.checking.proofs.Readings.{read-room}
 use Rattle.storage.proofs.Passes.{file-few}
 
 pub write-then-read : WriteThenRead
@@ -24,8 +30,8 @@ write-then-read c out r out′ w k a old q new d room =
     let s = w .stored k a in
     let o : orderOf (take k out′) ≡ c .order = ap (λ (x : Rows). x .order) (s .chain) in
     let t : HasRoom (orderOf (take k out′)) (length (c .columns)) (length (old .starts)) (length (old .columns)) (length (old .rates)) = rw o room in
-    let v : accepts (orderOf (take k out′), length (c .columns)) ≡ readVerdict (take k out′) (length (old .starts)) (length (old .columns)) (length (old .rates)) =
-    read-room (take k out′) _ _ _ (length (c .columns)) (s .accepted) (room-is _ _ _ _ _ t) in
+    let v : accepts (orderOf (take k out′), length (c .columns)) ≡ readVerdict zerosRefused (take k out′) (length (old .starts)) (length (old .columns)) (length (old .rates)) =
+    read-room zerosRefused (take k out′) _ _ _ (length (c .columns)) (s .accepted) (room-is _ _ _ _ _ t) in
     let b : told q ≡ accepts (c .order, length (c .columns)) = d .answer ∙ sym v ∙ ap (λ (n : ℕ). accepts (n, length (c .columns))) o in
     (b, sym (d .stored (c .order) (length (c .columns)) b .chain) ∙ s .chain)
 
@@ -38,10 +44,33 @@ read-then-write bytes old r new d n e a out w out′ x room =
     (b, sym (x .stored (length bytes) b .file) ∙ s .file)
 
 -- 65 starts and 4032 entries do for every file: no reading into slices of these lengths is refused by 5
-pub read-always : (bytes : List ℕ) (v : Verdict ℕ) → fileChecked bytes ≡ v → andThen v (λ e. accepts (orderOf bytes, e)) ≡ readVerdict bytes 65 4032 4032
+pub read-always : (zeros : Bool) (bytes : List ℕ) (v : Verdict ℕ) → fileChecked zeros bytes ≡ v → andThen v (λ e. accepts (orderOf bytes, e)) ≡ readVerdict zeros bytes 65 4032 4032
 unfolding readVerdict
-read-always bytes (accepts e) h =
-    let few = file-few bytes e h in
-    let room : HasRoom (orderOf bytes) e 65 4032 4032 = record { for-starts = omega (arith, file-is bytes e h .order .high); for-columns = few; for-rates = few } in
-    read-room bytes 65 4032 4032 e h (room-is (orderOf bytes) e 65 4032 4032 room)
-read-always bytes (refuses side line) h = rw h
+read-always zeros bytes (accepts e) h =
+    let few = file-few zeros bytes e h in
+    let room : HasRoom (orderOf bytes) e 65 4032 4032 = record { for-starts = omega (arith, file-is zeros bytes e h .order .high); for-columns = few; for-rates = few } in
+    read-room zeros bytes 65 4032 4032 e h (room-is (orderOf bytes) e 65 4032 4032 room)
+read-always zeros bytes (refuses side line) h = rw h
+
+-- so where it is refused, the bytes are
+module _ {zeros : Bool} {bytes : List ℕ} {old new : Buffers} {r : Reading} (d : Read zeros bytes old r new)
+    (a : length (old .starts) ≡ 65) (b : length (old .columns) ≡ 4032) (c : length (old .rates) ≡ 4032) where
+  pub file-refused : {f : Refusal} → r ≡ reading.Refused f → fileChecked zeros bytes ≡ refusal f
+  file-refused {f} q = go (fileChecked zeros bytes) refl
+    where
+      told-is : told r ≡ refusal f
+      told-is = ap told q
+
+      go : (v : Verdict ℕ) → fileChecked zeros bytes ≡ v → v ≡ refusal f
+      go (refuses s l) p =
+          let e : _≡_ {A = Verdict (ℕ × ℕ)} (refuses s l) (refuses (side f) (line f)) =
+          read-always zeros bytes (refuses s l) p ∙ sym (rw (a, b, c) at (d .answer)) ∙ told-is in
+          cc
+      go (accepts k) p =
+          let e = read-always zeros bytes (accepts k) p ∙ sym (rw (a, b, c) at (d .answer)) ∙ told-is in
+          let z : _≡_ {A = ℕ} 0 1 = cc in
+          absurd (omega arith)
+
+-- and what is read has no more entries than a chain of 64 states can have
+pub read-few : {zeros : Bool} {bytes : List ℕ} {old new : Buffers} {r : Reading} {n e : ℕ} → Read zeros bytes old r new → r ≡ reading.Chain n e → e ≤ 4032
+read-few {zeros} {bytes} {n = n} {e = e} d q = file-few zeros bytes e (d .stored n e (ap told q) .accepted)

@@ -1,4 +1,4 @@
--- The file of a chain that keeps the rules holds that chain. Assumes nothing.
+-- The file of a chain that keeps the rules 1 to 4 holds that chain, where rates of 0 are taken. Assumes nothing.
 use Prim.Native.Nat.{ℕ, zero, suc, _+_, _-_, _*_, _<_, _≤_}
 use mathlib.Core.Bool.{Bool, true, false, true≢false}
 use mathlib.Core.List.{List, [], _∷_, _++_, append-assoc}
@@ -16,9 +16,10 @@ use Rattle.chain.proofs.SoundLaws.{order-of, start-within}
 use Rattle.basics.proofs.FirstLaws.{first-is}
 use Rattle.refusal.specs.Table.{accepts}
 use Rattle.layout.specs.Bytes.{mapBytes, bitAt, storedColumns, storedRates, rowEnd, storedCount, startsIn, columnsIn, ratesIn, chainOf}
+use Rattle.checking.specs.Sound.{zerosTaken}
 use Rattle.checking.specs.Verdict.{badBit, firstBadBit, rowChecked, rowsChecked, fileChecked}
 use Rattle.layout.specs.File.{has, mapOf, bytesOf, rowBytes, rowsBytes, fileOf}
-use Rattle.checking.proofs.Checks.{not-bad, rates-sound, row-rates, row-is}
+use Rattle.checking.proofs.Checks.{not-bad, zeros-pass, rates-sound, row-rates, row-is}
 use Rattle.checking.proofs.Answers.{file-rows}
 use Rattle.packing.proofs.MapLaws.{has-there, length-map-of, length-bytes-of}
 use Rattle.packing.proofs.Storing.{drop-part, starts-next, starts-two, starts-last}
@@ -30,7 +31,7 @@ use Rattle.storage.proofs.MapBits.{map-forth, rates-forth}
 pub record RowRead (bytes : List ℕ) (n row map : ℕ) (columns rates t : List ℕ) : Type 0 where
   pub columns-are : storedColumns bytes n map ≡ columns
   pub rates-are : storedRates bytes n map ≡ rates
-  pub sound : rowChecked bytes n row map ≡ accepts (rowEnd bytes n map)
+  pub sound : rowChecked zerosTaken bytes n row map ≡ accepts (rowEnd bytes n map)
   pub rest : drop (rowEnd bytes n map) bytes ≡ t
 
 module _ (bytes : List ℕ) (n row map : ℕ) (columns rates t : List ℕ) (e : drop map bytes ≡ rowBytes n columns rates ++ t) (order : 0 < n)
@@ -86,8 +87,8 @@ module _ (bytes : List ℕ) (n row map : ℕ) (columns rates t : List ℕ) (e : 
         rates-are = rw (count-is ∙ sym many) (rates-forth bytes rates (map + mapBytes n) t small after-map);
         sound =
             sym
-            (row-rates bytes n row map (omega (arith, bytes-are)) (firstBadBit bytes n row map) refl none-bad (accepts (rowEnd bytes n map))
-            (sym (rates-sound bytes (storedColumns bytes n map) (map + mapBytes n) (omega (arith, bytes-are, count-is)))));
+            (row-rates zerosTaken bytes n row map (omega (arith, bytes-are)) (firstBadBit bytes n row map) refl none-bad (accepts (rowEnd bytes n map))
+            (sym (rates-sound zerosTaken bytes row (storedColumns bytes n map) (map + mapBytes n) (omega (arith, bytes-are, count-is)) (λ k l. zeros-pass bytes _))));
         rest =
             rw count-is
             (sym (drop-drop (4 * length columns) (map + mapBytes n) bytes) ∙ ap (λ (l : List ℕ). drop (4 * length columns) l) after-map
@@ -121,7 +122,7 @@ record RowsRead (bytes : List ℕ) (n k row map a : ℕ) (starts columns rates :
   starts-are : startsIn bytes n k map a ≡ starts
   columns-are : columnsIn bytes n k map ≡ columns
   rates-are : ratesIn bytes n k map ≡ rates
-  sound : rowsChecked bytes n k row map a ≡ accepts (a + length columns)
+  sound : rowsChecked zerosTaken bytes n k row map a ≡ accepts (a + length columns)
 
 module _ (bytes : List ℕ) (n : ℕ) (order : 0 < n) where
   rows-forth : (row a : ℕ) (starts columns rates : List ℕ) (map : ℕ) → RowsKept n row (a ∷ starts) columns rates
@@ -142,7 +143,7 @@ module _ (bytes : List ℕ) (n : ℕ) (order : 0 < n) where
       order inside (r .rises) (r .own) (lr ∙ sym lc) (take-small 4294967296 (omega arith) (b - a) rates small) in
       let q : a + storedCount bytes n map ≡ b = omega (arith, ap length (g .columns-are) ∙ lc, r .order) in
       let h = rows-forth (row + 1) b starts (drop (b - a) columns) (drop (b - a) rates) (rowEnd bytes n map) f
-      (λ i. rw (getD-drop (b - a) rates i 0) (small (b - a + i))) (row-is bytes n row map (rowEnd bytes n map) (g .sound) .whole) (g .rest) in
+      (λ i. rw (getD-drop (b - a) rates i 0) (small (b - a + i))) (row-is zerosTaken bytes n row map (rowEnd bytes n map) (g .sound) .whole) (g .rest) in
       record {
         starts-are = ap (λ (l : List ℕ). a ∷ l) (rw q (h .starts-are));
         columns-are = ap₂ (λ (x y : List ℕ). x ++ y) (g .columns-are) (h .columns-are) ∙ take-append-drop (b - a) columns;
@@ -211,7 +212,7 @@ from-zero n t columns rates o e f small =
 -- the file of a chain holds that chain, and is accepted
 pub record Holds (bytes : List ℕ) (c : Rows) : Type 0 where
   pub chain-is : chainOf bytes ≡ c
-  pub accepted : fileChecked bytes ≡ accepts (length (c .columns))
+  pub accepted : fileChecked zerosTaken bytes ≡ accepts (length (c .columns))
 
 pub file-forth : (c : Rows) → Sound c → ((i : ℕ) → getD (c .rates) i 0 < 4294967296) → Holds (fileOf c) c
 file-forth c g small =
@@ -228,6 +229,6 @@ file-forth c g small =
       chain-is = λ i. rows n (r .starts-are i) (r .columns-are i) (r .rates-are i);
       accepted =
           sym
-          (file-rows (fileOf c) (omega arith) (order-of n (g .order)) (accepts (length (c .columns)))
+          (file-rows zerosTaken (fileOf c) (omega arith) (order-of n (g .order)) (accepts (length (c .columns)))
           (ap accepts (sym (zero-add (length (c .columns)))) ∙ sym (r .sound)));
     }

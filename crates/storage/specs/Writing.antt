@@ -7,14 +7,15 @@ use lib.Dec.{leb}
 use lib.ListN.{length, take}
 use Rattle.chain.specs.Rows.{Rows}
 use Rattle.chain.specs.Rules.{checked}
-use Rattle.chain.specs.Sound.{Sound, Says}
+use Rattle.chain.specs.Sound.{Accepted, Says}
 use Rattle.refusal.specs.Table.{Side, Verdict, accepts, refuses, of-chain, numbered, verdict, andThen, after}
 use Rattle.refusal.specs.declared.Line.{Line}
 use Rattle.refusal.specs.declared.Outcome.{Outcome}
+use Rattle.checking.specs.Sound.{zerosRefused}
 use Rattle.layout.specs.File.{fileOf, fileSize}
 use Rattle.storage.specs.Reading.{Stored}
 
--- "the writer first checks the chain by 1 to 4, then its buffer by 5": the number of bytes
+-- "the writer first checks the chain by 1 to 4, then its buffer by 5", with 14 "straight after 4": the number of bytes
 unfoldable pub writeVerdict : Rows → ℕ → Verdict ℕ
 writeVerdict c room =
     andThen (checked c)
@@ -23,8 +24,8 @@ writeVerdict c room =
 -- the same as plain facts: what each verdict on a writing says, where so many bytes are lent
 pub data WriteSays (c : Rows) (room : ℕ) : Verdict ℕ → Type 0 where
   rule-broken : {side : Side} {line : Line} → Says c (refuses side line) → WriteSays c room (refuses side line)
-  room-short : Sound c → room < fileSize (c .order) (length (c .columns)) → WriteSays c room (refuses of-chain (numbered 5 0 0))
-  all-written : Sound c → fileSize (c .order) (length (c .columns)) ≤ room → WriteSays c room (accepts (fileSize (c .order) (length (c .columns))))
+  room-short : Accepted c → room < fileSize (c .order) (length (c .columns)) → WriteSays c room (refuses of-chain (numbered 5 0 0))
+  all-written : Accepted c → fileSize (c .order) (length (c .columns)) ≤ room → WriteSays c room (accepts (fileSize (c .order) (length (c .columns))))
 
 -- what a writing answers, and the lent bytes at its exit
 pub record Written (c : Rows) (out : List ℕ) (r : Outcome) (out′ : List ℕ) : Type 0 where
@@ -33,4 +34,4 @@ pub record Written (c : Rows) (out : List ℕ) (r : Outcome) (out′ : List ℕ)
   -- what the answer says of the chain
   pub says : WriteSays c (length out) (verdict r)
   -- accepted: the bytes written are the stored form of the chain
-  pub stored : (k : ℕ) → verdict r ≡ accepts k → Stored c (length (c .columns)) (take k out′)
+  pub stored : (k : ℕ) → verdict r ≡ accepts k → Stored zerosRefused c (length (c .columns)) (take k out′)

@@ -1,6 +1,7 @@
 // Stored chains: a chain read from bytes into lent slices, and written into lent bytes.
 ghost use mathlib.Core.Path.{_≡_};
 ghost use Rattle.chain.specs.Rows.{inRows};
+ghost use Rattle.checking.specs.Sound.{zerosTaken, zerosRefused};
 ghost use Rattle.checking.specs.Verdict.{readVerdict};
 ghost use Rattle.layout.specs.Buffers.{inBuffers};
 ghost use Rattle.storage.specs.Reading.{told, Read};
@@ -20,11 +21,11 @@ pub enum Reading {
     Refused(Refusal),
 }
 
-// What a reading into slices of these lengths answers.
-fn judge(bytes: &[u8], starts: usize, columns: usize, rates: usize) -> Reading
-    ensures { λ r. ⌜ told r ≡ readVerdict (now (bytes .entry)) starts columns rates ⌝ }
+// What a reading into slices of these lengths answers, rates of 0 being taken or not.
+fn judge(bytes: &[u8], zeros: bool, starts: usize, columns: usize, rates: usize) -> Reading
+    ensures { λ r. ⌜ told r ≡ readVerdict zeros (now (bytes .entry)) starts columns rates ⌝ }
 {
-    match check_file(bytes) {
+    match check_file(bytes, zeros) {
         Outcome::Refused(refusal) => Reading::Refused(refusal),
         Outcome::Done(entries) => {
             let order = bytes[0] as usize;
@@ -37,19 +38,52 @@ fn judge(bytes: &[u8], starts: usize, columns: usize, rates: usize) -> Reading
 }
 
 // A stored chain, read into the three slices: nothing is written before every refusal is behind.
-pub fn read(bytes: &[u8], starts: &mut [u32], columns: &mut [u32], rates: &mut [u32]) -> Reading
+fn read_by(
+    bytes: &[u8],
+    zeros: bool,
+    starts: &mut [u32],
+    columns: &mut [u32],
+    rates: &mut [u32],
+) -> Reading
     ensures { λ r. ⌜
-        Read (now (bytes .entry))
+        Read zeros (now (bytes .entry))
         (inBuffers (starts .entry) (columns .entry) (rates .entry)) r
         (inBuffers (starts .exit) (columns .exit) (rates .exit))
         ⌝ }
 {
-    let answer = judge(bytes, starts.len(), columns.len(), rates.len());
+    let answer = judge(bytes, zeros, starts.len(), columns.len(), rates.len());
     let Reading::Chain { order, entries } = answer else {
         return answer;
     };
     fill_rows(bytes, order, starts, columns, rates, entries);
     answer
+}
+
+// A stored chain: one with a rate of 0 is refused by 14.
+pub fn read(bytes: &[u8], starts: &mut [u32], columns: &mut [u32], rates: &mut [u32]) -> Reading
+    ensures { λ r. ⌜
+        Read zerosRefused (now (bytes .entry))
+        (inBuffers (starts .entry) (columns .entry) (rates .entry)) r
+        (inBuffers (starts .exit) (columns .exit) (rates .exit))
+        ⌝ }
+{
+    read_by(bytes, false, starts, columns, rates)
+}
+
+// A chain stored under the rules until request R-5, by which rates of 0 are taken.
+pub fn read_with_zeros(
+    bytes: &[u8],
+    starts: &mut [u32],
+    columns: &mut [u32],
+    rates: &mut [u32],
+) -> Reading
+    ensures { λ r. ⌜
+        Read zerosTaken (now (bytes .entry))
+        (inBuffers (starts .entry) (columns .entry) (rates .entry)) r
+        (inBuffers (starts .exit) (columns .exit) (rates .exit))
+        ⌝ }
+{
+    read_by(bytes, true, starts, columns, rates)
 }
 
 // A chain, stored in the lent bytes: the number of bytes. A refusal of the check is passed on unchanged.

@@ -9,7 +9,7 @@ use Rattle.markov.specs.Weight.{over, led, leads, moves, weight}
 use Rattle.markov.specs.Elimination as elimination
 use Rattle.markov.specs.Count.{boundCount}
 use Rattle.markov.specs.Closed.{size, member, alone, spread, setWeight, setWeights, setShares}
-use Rattle.chain.specs.Rules.{startsSound, entryBad, columnsChecked, checked}
+use Rattle.chain.specs.Rules.{startsSound, entryBad, columnsChecked, rulesChecked, zerosChecked, checked}
 use Rattle.chain.specs.Meaning.{rateIn}
 use Rattle.reach.specs.Reach.{via}
 use Rattle.reach.specs.ClosedSets.{settles, isLowest, firstLowest, secondLowest, lowestSet}
@@ -28,7 +28,7 @@ unfolding solved enough table weightsOf sharesOf entries setSize countOf plus ti
     bitLengthUpTo bitLength isScaledAt upward carried nearest roundedSum roundedProduct roundedQuotient converted isScaled sumOf productOf quotientOf rateOf
     weight over sum prod count put leads led all moves boundCount
     size member alone spread setWeight setWeights setShares
-    checked startsSound columnsChecked entryBad rateIn answered oneClosed setOf lowestSet firstLowest secondLowest isLowest settles via
+    checked rulesChecked startsSound columnsChecked entryBad zerosChecked rateIn answered oneClosed setOf lowestSet firstLowest secondLowest isLowest settles via
     bytes.bitAt bytes.storedRate reading.readVerdict reading.fileChecked reading.rowChecked reading.rateChecked reading.roomToRead
 cases-hold = record {
   case-1 = record { accepted = refl; exact-weights = refl; weights-are = refl; shares-are = refl };
@@ -37,7 +37,8 @@ cases-hold = record {
   case-3 = record { accepted = refl; exact-weights = refl; weights-are = refl; shares-are = refl };
   case-4 = record { accepted = refl; exact-weights = refl; weights-are = refl; shares-are = refl };
   case-5 = refl;
-  case-6 = record { accepted = refl; exact-weights = refl; weights-are = refl; shares-are = refl };
+  case-6 = (refl, refl, λ starts columns rates. refl);
+  case-6-cleaned = record { accepted = refl; exact-weights = refl; weights-are = refl; shares-are = refl };
   case-7 = record { accepted = refl; exact-weights = refl; weights-are = refl; shares-are = refl };
   ring = record { accepted = refl; exact-weights = refl; weights-are = refl; shares-are = refl };
   refusal-6 = refl;

@@ -17,8 +17,8 @@ use Rattle.scaled.specs.Units.{val, one, factor}
 use Rattle.markov.specs.Chain.{Balanced, Balances}
 use Rattle.markov.specs.Closed.{OnlyClosed, HasAnswer, size, member, last, alone, setWeight}
 use Rattle.markov.specs.Count.{boundCount}
-use Rattle.chain.specs.Rules.{startsSound, entryBad, columnsChecked, checked}
-use Rattle.chain.specs.Sound.{Sound}
+use Rattle.chain.specs.Rules.{startsSound, entryBad, columnsChecked, rulesChecked, zerosChecked, checked}
+use Rattle.chain.specs.Sound.{Accepted}
 use Rattle.chain.specs.Meaning.{rateIn}
 use Rattle.reach.specs.Reach.{via}
 use Rattle.reach.specs.ClosedSets.{settles, isLowest, firstLowest, secondLowest, lowestSet}
@@ -62,12 +62,12 @@ share-0 = ap (at 0) (cases-hold .case-7 .shares-are)
 
 -- ---- its only closed set has the states 0 and 1
 
-has-answer-7 : Sound chain7 × HasAnswer 3 (rateIn chain7)
-unfolding answered oneClosed firstLowest secondLowest isLowest settles all checked startsSound columnsChecked entryBad via rateIn sum
+has-answer-7 : Accepted chain7 × HasAnswer 3 (rateIn chain7)
+unfolding answered oneClosed firstLowest secondLowest isLowest settles all checked rulesChecked startsSound columnsChecked entryBad zerosChecked via rateIn sum
 has-answer-7 = accepted-answer chain7 refl
 
 pub only-7 : OnlyClosed 3 (rateIn chain7) (setOf chain7)
-only-7 = answer-set chain7 (has-answer-7 .0) (has-answer-7 .1)
+only-7 = answer-set chain7 (has-answer-7 .0 .sound) (has-answer-7 .1)
 
 pub outside-7 : setOf chain7 2 ≡ false
 unfolding setOf lowestSet firstLowest isLowest settles all via rateIn sum
@@ -85,7 +85,7 @@ words-7 : (p : ℕ) → getD (chain7 .rates) p 0 < 4294967296
 words-7 = elim [ zero ↦ lit< tt | suc zero ↦ lit< tt | suc (suc zero) ↦ lit< tt | suc (suc (suc p)) ↦ lit< tt ]
 
 pub in-range-7 : AllInside chain7
-in-range-7 = in-range (has-answer-7 .0) words-7 (only-7 .closed)
+in-range-7 = in-range (has-answer-7 .0 .sound) words-7 (only-7 .closed)
 
 -- ---- demand 2, for the whole chain
 
@@ -114,7 +114,7 @@ unfolding countOf setSize
 count-7 = ap boundCount size-7 ∙ cases-hold .case-8 .1
 
 pub accurate-7 : Accurate 3 (rateIn chain7) (setOf chain7) 8 (weightsOf chain7) (sharesOf chain7)
-accurate-7 = rw count-7 at (accurate chain7 (only-7 .closed) (all-fit (has-answer-7 .0) words-7 (only-7 .closed)))
+accurate-7 = rw count-7 at (accurate chain7 (only-7 .closed) (all-fit (has-answer-7 .0 .sound) words-7 (only-7 .closed)))
 
 -- weight 0 lies within 8 factors of 1 / 1, measured against the set's last state, 1; state 2 has Zero
 pub weight-0-near : Near factor 8 (val (scaled 2147483648 (minus 31)) * 1) (one * 1)

@@ -17,8 +17,8 @@ use Rattle.markov.specs.Chain.{Balances}
 use Rattle.markov.specs.Closed.{HasAnswer, OnlyClosed, size, member, last, setWeight}
 use Rattle.markov.specs.Elimination.{pivotOf}
 use Rattle.markov.specs.Count.{boundCount}
-use Rattle.chain.specs.Rules.{startsSound, entryBad, columnsChecked, checked}
-use Rattle.chain.specs.Sound.{Sound}
+use Rattle.chain.specs.Rules.{startsSound, entryBad, columnsChecked, rulesChecked, zerosChecked, checked}
+use Rattle.chain.specs.Sound.{Accepted}
 use Rattle.chain.specs.Meaning.{rateIn}
 use Rattle.reach.specs.Reach.{via}
 use Rattle.reach.specs.ClosedSets.{settles, isLowest, firstLowest, secondLowest, lowestSet}
@@ -68,13 +68,13 @@ share-1 = ap (at 1) (cases-hold .case-2 .shares-are)
 
 -- ---- what the theorems ask
 
-pub has-answer-2 : Sound chain2 × HasAnswer 2 (rateIn chain2)
-unfolding answered oneClosed firstLowest secondLowest isLowest settles all checked startsSound columnsChecked entryBad via rateIn sum
+pub has-answer-2 : Accepted chain2 × HasAnswer 2 (rateIn chain2)
+unfolding answered oneClosed firstLowest secondLowest isLowest settles all checked rulesChecked startsSound columnsChecked entryBad zerosChecked via rateIn sum
 has-answer-2 = accepted-answer chain2 refl
 
 -- its closed set has both states, and the last is 1
 only-2 : OnlyClosed 2 (rateIn chain2) (setOf chain2)
-only-2 = answer-set chain2 (has-answer-2 .0) (has-answer-2 .1)
+only-2 = answer-set chain2 (has-answer-2 .0 .sound) (has-answer-2 .1)
 
 size-2 : size 2 (setOf chain2) ≡ 2
 unfolding size setOf lowestSet firstLowest isLowest settles all via rateIn sum count
@@ -90,7 +90,7 @@ words-2 = elim [ zero ↦ lit< tt | suc zero ↦ lit< tt | suc (suc p) ↦ lit< 
 -- ---- R-7
 
 pub in-range-2 : AllInside chain2
-in-range-2 = in-range (has-answer-2 .0) words-2 (only-2 .closed)
+in-range-2 = in-range (has-answer-2 .0 .sound) words-2 (only-2 .closed)
 
 -- the pivot of its one step is the rate 3, which is not Zero
 pub pivot-2 : pivotOf ops 1 (stage 2 0 (setEntries chain2)) ≢ zeroNumber
@@ -129,7 +129,7 @@ unfolding countOf setSize
 count-2 = ap boundCount size-2 ∙ cases-hold .case-8 .1
 
 pub accurate-2 : Accurate 2 (rateIn chain2) (setOf chain2) 8 (weightsOf chain2) (sharesOf chain2)
-accurate-2 = rw count-2 at (accurate chain2 (only-2 .closed) (all-fit (has-answer-2 .0) words-2 (only-2 .closed)))
+accurate-2 = rw count-2 at (accurate chain2 (only-2 .closed) (all-fit (has-answer-2 .0 .sound) words-2 (only-2 .closed)))
 
 -- the computed weights lie within 8 factors of 1 / 3 and 3 / 3
 pub weight-0-near : Near factor 8 (val (scaled 2863311531 (minus 33)) * 3) (one * 1)

@@ -19,8 +19,8 @@ use Rattle.markov.specs.Elimination as elimination
 use Rattle.markov.specs.Count.{boundCount}
 use Rattle.markov.specs.Closed.{HasAnswer, OnlyClosed, size, member, alone, spread, setWeight, setWeights, setShares}
 use Rattle.range.specs.Range.{picked}
-use Rattle.chain.specs.Rules.{startsSound, entryBad, columnsChecked, checked}
-use Rattle.chain.specs.Sound.{Sound}
+use Rattle.chain.specs.Rules.{startsSound, entryBad, columnsChecked, rulesChecked, zerosChecked, checked}
+use Rattle.chain.specs.Sound.{Accepted}
 use Rattle.chain.specs.Meaning.{rateIn}
 use Rattle.reach.specs.Reach.{via}
 use Rattle.reach.specs.ClosedSets.{settles, isLowest, firstLowest, secondLowest, lowestSet}
@@ -43,17 +43,17 @@ unfolding groupsSolved groupSharesOf groupWeight tableChecked rowBad holders gro
     bitLengthUpTo bitLength isScaledAt upward carried nearest roundedSum roundedProduct roundedQuotient converted isScaled sumOf productOf quotientOf rateOf
     weight over sum prod count put leads led all moves boundCount
     size member alone spread setWeight setWeights setShares
-    checked startsSound columnsChecked entryBad rateIn answered oneClosed setOf lowestSet firstLowest secondLowest isLowest settles via
+    checked rulesChecked startsSound columnsChecked entryBad zerosChecked rateIn answered oneClosed setOf lowestSet firstLowest secondLowest isLowest settles via
 group-cases-hold = record { accepted = refl; groups-are = refl; exact-3 = refl; exact-15 = refl; exact-0 = refl; accepted-7 = refl; groups-are-7 = refl; exact-9 = refl; exact-4 = refl }
 
 -- ---- what the theorem asks
 
-has-answer-3 : Sound chain3 × HasAnswer 3 (rateIn chain3)
-unfolding answered oneClosed firstLowest secondLowest isLowest settles all checked startsSound columnsChecked entryBad via rateIn sum
+has-answer-3 : Accepted chain3 × HasAnswer 3 (rateIn chain3)
+unfolding answered oneClosed firstLowest secondLowest isLowest settles all checked rulesChecked startsSound columnsChecked entryBad zerosChecked via rateIn sum
 has-answer-3 = accepted-answer chain3 refl
 
 only-3 : OnlyClosed 3 (rateIn chain3) (setOf chain3)
-only-3 = answer-set chain3 (has-answer-3 .0) (has-answer-3 .1)
+only-3 = answer-set chain3 (has-answer-3 .0 .sound) (has-answer-3 .1)
 
 words-3 : (p : ℕ) → getD (chain3 .rates) p 0 < 4294967296
 words-3 = elim [ zero ↦ lit< tt | suc zero ↦ lit< tt | suc (suc zero) ↦ lit< tt | suc (suc (suc p)) ↦ lit< tt ]
@@ -63,10 +63,10 @@ unfolding countOf setSize size setOf lowestSet firstLowest isLowest settles all 
 count-3 = refl
 
 accurate-3 : Accurate 3 (rateIn chain3) (setOf chain3) 28 (weightsOf chain3) (sharesOf chain3)
-accurate-3 = rw count-3 at (accurate chain3 (only-3 .closed) (all-fit (has-answer-3 .0) words-3 (only-3 .closed)))
+accurate-3 = rw count-3 at (accurate chain3 (only-3 .closed) (all-fit (has-answer-3 .0 .sound) words-3 (only-3 .closed)))
 
 groups-accurate-3 : GroupsAccurate 3 (rateIn chain3) (setOf chain3) table3 28 (groupSharesOf chain3 table3)
-groups-accurate-3 = groups-accurate chain3 table3 28 (only-3 .closed) (in-range (has-answer-3 .0) words-3 (only-3 .closed)) (accurate-3 .shares-scaled) (accurate-3 .shares)
+groups-accurate-3 = groups-accurate chain3 table3 28 (only-3 .closed) (in-range (has-answer-3 .0 .sound) words-3 (only-3 .closed)) (accurate-3 .shares-scaled) (accurate-3 .shares)
 
 -- ---- and what it says: within 2 × 28 + 2 × 3 factors of 48 / 56 and 8 / 56
 

@@ -16,6 +16,7 @@ use Rattle.chain.specs.Rows.{Rows, rows}
 use Rattle.chain.specs.Meaning.{rateIn}
 use Rattle.reach.specs.Answer.{setOf}
 use Rattle.layout.specs.Bytes.{chainOf}
+use Rattle.checking.specs.Sound.{zerosRefused}
 use Rattle.checking.specs.Verdict.{readVerdict}
 use Rattle.layout.specs.File.{fileOf}
 use Rattle.solver.specs.Lent.{enough}
@@ -61,11 +62,11 @@ Refuses c line = answer c ≡ refuses of-chain line
 
 -- reading refuses these bytes, with this number and these places, whatever the lengths of the lent slices
 abbrev pub Unreadable : List ℕ → Line → Type 0
-Unreadable bytes line = (starts columns rates : ℕ) → readVerdict bytes starts columns rates ≡ refuses of-bytes line
+Unreadable bytes line = (starts columns rates : ℕ) → readVerdict zerosRefused bytes starts columns rates ≡ refuses of-bytes line
 
 -- these bytes are read as this chain, into slices of just the needed lengths, and they are its file
 pub record Stores (bytes : List ℕ) (c : Rows) : Type 0 where
-  pub accepted : readVerdict bytes (c .order + 1) (length (c .columns)) (length (c .rates)) ≡ accepts (c .order, length (c .columns))
+  pub accepted : readVerdict zerosRefused bytes (c .order + 1) (length (c .columns)) (length (c .rates)) ≡ accepts (c .order, length (c .columns))
   pub chain-is : chainOf bytes ≡ c
   pub file-is : fileOf c ≡ bytes
 
@@ -90,6 +91,14 @@ chain4 = rows 2 (0 ∷ 1 ∷ 2 ∷ []) (1 ∷ 0 ∷ []) (1 ∷ 4294967295 ∷ []
 -- "n = 2, 0 to 1 rate 0, 1 to 0 rate 5"
 abbrev pub chain6 : Rows
 chain6 = rows 2 (0 ∷ 1 ∷ 2 ∷ []) (1 ∷ 0 ∷ []) (0 ∷ 5 ∷ [])
+
+-- and its file, 02 02 00 00 00 00 01 05 00 00 00
+abbrev pub stored6 : List ℕ
+stored6 = 2 ∷ 2 ∷ 0 ∷ 0 ∷ 0 ∷ 0 ∷ 1 ∷ 5 ∷ 0 ∷ 0 ∷ 0 ∷ []
+
+-- without its entry of rate 0
+abbrev pub cleaned6 : Rows
+cleaned6 = rows 2 (0 ∷ 0 ∷ 1 ∷ []) (0 ∷ []) (5 ∷ [])
 
 -- "n = 3, 0 to 1 and 1 to 0 and 2 to 0, all rate 1"
 abbrev pub chain7 : Rows
@@ -132,8 +141,11 @@ pub record Cases : Type 0 where
       (scaled 4294967295 (minus 32) ∷ scaled 2147483648 (minus 63) ∷ [])
   -- "Rate 3 is (3221225472, -30)."
   pub case-5 : rateOf 3 ≡ scaled 3221225472 (minus 30)
-  -- "cases 6 and 7 are now accepted": the closed set of case 6 is state 0 alone, that of case 7 the states 0 and 1
-  pub case-6 : Solves chain6 0 (1 ∷ 0 ∷ []) (scaled 2147483648 (minus 31) ∷ zeroNumber ∷ []) (scaled 2147483648 (minus 31) ∷ zeroNumber ∷ [])
+  -- "Case 6 becomes 14, (0, 1)", in the chain and in its file
+  pub case-6 : Refuses chain6 (numbered 14 0 1) × (fileOf chain6 ≡ stored6) × Unreadable stored6 (numbered 14 0 1)
+  -- its cleaned twin: the closed set is state 0 alone
+  pub case-6-cleaned : Solves cleaned6 0 (1 ∷ 0 ∷ []) (scaled 2147483648 (minus 31) ∷ zeroNumber ∷ []) (scaled 2147483648 (minus 31) ∷ zeroNumber ∷ [])
+  -- accepted since R-3: the closed set has the states 0 and 1
   pub case-7 : Solves chain7 8 (1 ∷ 1 ∷ 0 ∷ [])
       (scaled 2147483648 (minus 31) ∷ scaled 2147483648 (minus 31) ∷ zeroNumber ∷ [])
       (scaled 2147483648 (minus 32) ∷ scaled 2147483648 (minus 32) ∷ zeroNumber ∷ [])

@@ -1,52 +1,25 @@
-use mathlib.Core.Path.{refl, _∙_, sym}
+use mathlib.Core.Path.{sym, ap, _∙_}
 use borrow.Author.Needs.{needs}
-use borrow.Author.Tests.{not-true, not-false, eq-eqb, ne-eqb}
-use Rattle.basics.proofs.BoolLaws.{by-true, by-false}
-use Rattle.chain.specs.Rules.{checked}
-use Rattle.chain.proofs.RulesLaws.{order-held}
-use Rattle.chain.proofs.Reading.{check-means}
+use Rattle.refusal.specs.Table.{verdict}
+use Rattle.chain.proofs.Reading.{check-means, rules-sound, rules-refused, rules-kept}
 use Rattle.chain.proofs.check.Statement.{statement}
 use Rattle.chain.proofs.check.Tie as tie
 
 returns : tie.Need-returns
-unfolding checked
-returns c = check-means _ (by-false _ _ (sym (c .before .order-sound .ensures) ∙ not-true _ (c .if1 .taken)) refl)
+returns c =
+    let e = ap verdict (c .enum-told2 .given .1) in
+    check-means _ (e ∙ rules-refused _ (sym e ∙ c .before .before .check-rules .ensures))
+
+check-zeros-requires : tie.Need-check-zeros-requires
+check-zeros-requires c κs = rules-sound _ (sym (c .before .before .check-rules .ensures) ∙ ap verdict (c .enum-told .given .1))
 
 returns-2 : tie.Need-returns-2
-unfolding checked
 returns-2 c =
     check-means _
-    (by-true _ _ (sym (c .before .before .order-sound .ensures) ∙ not-false _ (c .before .if1 .left))
-    (by-false _ _ (ne-eqb _ _ (c .if2 .taken)) refl))
-
-starts-sound-requires : tie.Need-starts-sound-requires
-starts-sound-requires c κs = order-held _ (sym (c .before .before .order-sound .ensures) ∙ not-false _ (c .before .if1 .left))
-
-returns-3 : tie.Need-returns-3
-unfolding checked
-returns-3 c =
-    check-means _
-    (by-true _ _ (sym (c .before .before .before .before .order-sound .ensures) ∙ not-false _ (c .before .before .before .if1 .left))
-    (by-true _ _ (eq-eqb _ _ (c .before .before .if2 .left))
-    (by-false _ _ (sym (c .before .starts-sound .ensures) ∙ not-true _ (c .if3 .taken)) refl)))
-
-check-columns-requires : tie.Need-check-columns-requires
-check-columns-requires c κs = (
-  order-held _ (sym (c .before .before .before .before .order-sound .ensures) ∙ not-false _ (c .before .before .before .if1 .left)),
-  sym (c .before .starts-sound .ensures) ∙ not-false _ (c .if3 .left),
-)
-
-returns-4 : tie.Need-returns-4
-unfolding checked
-returns-4 c =
-    check-means _
-    (by-true _ _
-    (sym (c .before .before .before .before .before .order-sound .ensures) ∙ not-false _ (c .before .before .before .before .if1 .left))
-    (by-true _ _ (eq-eqb _ _ (c .before .before .before .if2 .left))
-    (by-true _ _ (sym (c .before .before .starts-sound .ensures) ∙ not-false _ (c .before .if3 .left)) (c .check-columns .ensures _))))
+    (rules-kept _ (sym (c .before .before .before .check-rules .ensures) ∙ ap verdict (c .before .enum-told .given .1)) (c .check-zeros .ensures))
 
 pub check-spec : {M : Type 1} → statement M
 check-spec =
     tie.close
     (tie.spec
-    (λ c κs. search needs) returns returns-2 starts-sound-requires returns-3 check-columns-requires returns-4)
+    (λ c κs. search needs) (λ c. search needs) (λ c. search needs) returns check-zeros-requires returns-2)

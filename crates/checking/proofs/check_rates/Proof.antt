@@ -2,6 +2,7 @@
 use mathlib.Core.Logic.{⊎-elim}
 use mathlib.Core.Path.{refl, sym, ap, _∙_}
 use Prim.Native.Nat.{_-_}
+use native.Mathlib.Omega.{arith}
 use borrow.Author.Needs.{needs}
 use Rattle.refusal.specs.Table.{verdict}
 use Rattle.checking.proofs.Checks.{RatesLeft, rates-end, rates-hit, rates-miss, rates-stop}
@@ -9,10 +10,10 @@ use Rattle.checking.proofs.check_rates.Statement.{statement}
 use Rattle.checking.proofs.check_rates.Tie as tie
 
 abbrev Inv-loop : tie.InvT-loop
-Inv-loop bytes n map place₀ j₀ place j = RatesLeft bytes n map j place
+Inv-loop bytes zeros n row map place₀ j₀ place j = RatesLeft zeros bytes n row map j place
 
 abbrev μ-loop : tie.MeasureT-loop
-μ-loop bytes n map place₀ j₀ place j = n - j
+μ-loop bytes zeros n row map place₀ j₀ place j = n - j
 
 loop-holds : tie.Need-loop-holds Inv-loop μ-loop
 loop-holds c = record { turn = search needs; inside = search needs; same = refl }
@@ -20,20 +21,20 @@ loop-holds c = record { turn = search needs; inside = search needs; same = refl 
 returns : tie.Need-returns Inv-loop μ-loop
 returns c =
     ap verdict (c .enum-told .given .1)
-    ∙ rates-stop _ _ _ _ _ (c .before .before .before .before .before .before .loop .inv) (c .before .before .before .before .before .loop-test .taken)
-    (sym (c .before .before .before .before .bit-at .ensures) ∙ c .before .before .before .if1 .taken) _ _
+    ∙ rates-stop _ _ _ _ _ _ _ (c .before .before .before .before .before .before .loop .inv) (c .before .before .before .before .before .loop-test .taken)
+    (sym (c .before .before .before .before .bit-at .ensures) ∙ c .before .before .before .if1 .taken) _ (omega arith) _ _
     (sym (c .before .before .check-rate .ensures) ∙ ap verdict (c .enum-told .given .1))
 
 loop-again : tie.Need-loop-again Inv-loop μ-loop
 loop-again c =
     ⊎-elim
-    (λ w. rates-hit _ _ _ _ _ (c .before .before .before .loop .inv) (c .before .before .loop-test .taken) (sym (c .before .bit-at .ensures) ∙ w .0 .taken) _
+    (λ w. rates-hit _ _ _ _ _ _ _ (c .before .before .before .loop .inv) (c .before .before .loop-test .taken) (sym (c .before .bit-at .ensures) ∙ w .0 .taken) _ (omega arith) _
     (sym (w .1 .ensures) ∙ ap verdict (w .3 .given .1)) _ (w .5))
-    (λ w. rates-miss _ _ _ _ _ (c .before .before .before .loop .inv) (c .before .before .loop-test .taken) (sym (c .before .bit-at .ensures) ∙ w .0 .left) _ (w .1))
+    (λ w. rates-miss _ _ _ _ _ _ _ (c .before .before .before .loop .inv) (c .before .before .loop-test .taken) (sym (c .before .bit-at .ensures) ∙ w .0 .left) _ (w .1))
     (c .if1 .came)
 
 returns-2 : tie.Need-returns-2 Inv-loop μ-loop
-returns-2 c = rates-end _ _ _ _ _ (c .before .loop .inv) (c .loop-test .left)
+returns-2 c = rates-end _ _ _ _ _ _ _ (c .before .loop .inv) (c .loop-test .left)
 
 pub check-rates-spec : {M : Type 1} → statement M
 check-rates-spec =

@@ -11,15 +11,15 @@ use Rattle.checking.proofs.check_rows.Statement.{statement}
 use Rattle.checking.proofs.check_rows.Tie as tie
 
 abbrev Inv-loop : tie.InvT-loop
-Inv-loop bytes n row₀ map₀ e₀ row map e = RowsLeft bytes n row map e
+Inv-loop bytes zeros n row₀ map₀ e₀ row map e = RowsLeft zeros bytes n row map e
 
 abbrev μ-loop : tie.MeasureT-loop
-μ-loop bytes n row₀ map₀ e₀ row map e = n - row
+μ-loop bytes zeros n row₀ map₀ e₀ row map e = n - row
 
 got : (c : tie.After-known-told Inv-loop μ-loop)
     → let a = c .before .before .before .before .before .before .before .args in
     let turn = c .before .before .before .before .before .loop in
-    rowChecked (a .bytes .now) (a .n) (turn .row) (turn .map) ≡ accepts (c .before .answer .given .0 .0)
+    rowChecked (a .zeros) (a .bytes .now) (a .n) (turn .row) (turn .map) ≡ accepts (c .before .answer .given .0 .0)
 got c = sym (c .before .before .before .check-row .ensures) ∙ ap verdict (c .before .answer .given .1)
 
 loop-holds : tie.Need-loop-holds Inv-loop μ-loop
@@ -28,29 +28,29 @@ loop-holds c = record { turn = search needs; inside = search needs; few = search
 returns : tie.Need-returns Inv-loop μ-loop
 returns c =
     ap verdict (c .enum-told .given .1)
-    ∙ rows-stop _ _ _ _ _ (c .before .before .before .before .loop .inv) (c .before .before .before .loop-test .taken) _ _
+    ∙ rows-stop _ _ _ _ _ _ (c .before .before .before .before .loop .inv) (c .before .before .before .loop-test .taken) _ _
     (sym (c .before .before .check-row .ensures) ∙ ap verdict (c .enum-told .given .1))
 
 count-bits-requires : tie.Need-count-bits-requires Inv-loop μ-loop
-count-bits-requires c κs = let r = row-is _ _ _ _ _ (got c) in (search needs, omega (arith, r .whole))
+count-bits-requires c κs = let r = row-is _ _ _ _ _ _ (got c) in (search needs, omega (arith, r .whole))
 
 add-e : tie.Need-add-e Inv-loop μ-loop
 add-e c =
     let r =
-    rows-more _ _ _ _ _ (c .before .before .before .before .before .before .loop .inv) (c .before .before .before .before .before .loop-test .taken) _ (got (c .before))
+    rows-more _ _ _ _ _ _ (c .before .before .before .before .before .before .loop .inv) (c .before .before .before .before .before .loop-test .taken) _ (got (c .before))
     _ (c .count-bits .ensures) in
     omega (arith, r .few, r .inside, c .before .before .before .before .before .before .before .before .good)
 
 loop-again : tie.Need-loop-again Inv-loop μ-loop
 loop-again c =
-    rows-more _ _ _ _ _ (c .before .before .before .before .before .before .loop .inv) (c .before .before .before .before .before .loop-test .taken) _ (got (c .before))
+    rows-more _ _ _ _ _ _ (c .before .before .before .before .before .before .loop .inv) (c .before .before .before .before .before .loop-test .taken) _ (got (c .before))
     _ (c .count-bits .ensures)
 
 returns-2 : tie.Need-returns-2 Inv-loop μ-loop
-returns-2 c = rows-extra _ _ _ _ _ (c .before .before .loop .inv) (c .before .loop-test .left) (c .if1 .taken)
+returns-2 c = rows-extra _ _ _ _ _ _ (c .before .before .loop .inv) (c .before .loop-test .left) (c .if1 .taken)
 
 returns-3 : tie.Need-returns-3 Inv-loop μ-loop
-returns-3 c = rows-end _ _ _ _ _ (c .before .before .loop .inv) (c .before .loop-test .left) (c .if1 .left)
+returns-3 c = rows-end _ _ _ _ _ _ (c .before .before .loop .inv) (c .before .loop-test .left) (c .if1 .left)
 
 pub check-rows-spec : {M : Type 1} → statement M
 check-rows-spec =

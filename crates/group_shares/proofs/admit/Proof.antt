@@ -1,4 +1,4 @@
--- The first refusal of 1 to 4, 13, 12, 11 and 5 for the places of the groups, or the number of rows. Assumes nothing.
+-- The first refusal of 1 to 4, 14, 13, 12, 11 and 5 for the places of the groups, or the number of rows. Assumes nothing.
 use mathlib.Core.Path.{ap, _∙_}
 use Rattle.basics.proofs.BoolLaws.{passed, failed}
 use Rattle.refusal.specs.Table.{verdict}

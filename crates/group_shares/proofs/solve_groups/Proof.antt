@@ -1,4 +1,4 @@
--- What 1 to 4, 13, 12, 11, 5 and 6 refuse is refused, and nothing is written; otherwise the shares are summed by group. Assumes nothing.
+-- What 1 to 4, 14, 13, 12, 11, 5 and 6 refuse is refused, and nothing is written; otherwise the shares are summed by group. Assumes nothing.
 use mathlib.Core.Path.{ap, sym}
 use Rattle.basics.proofs.BoolLaws.{passed, failed}
 use Rattle.refusal.specs.Table.{verdict}

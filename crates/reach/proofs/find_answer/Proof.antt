@@ -6,7 +6,7 @@ use Rattle.reach.proofs.find_answer.Statement.{statement}
 use Rattle.reach.proofs.find_answer.Tie as tie
 
 answer-from-requires : tie.Need-answer-from-requires
-answer-from-requires c κs = let s = c .before .before .before .before .pre in (s .order .high, masks-first _ s (c .closure .ensures))
+answer-from-requires c κs = let s = c .before .before .before .before .pre in (s .sound .order .high, masks-first _ s (c .closure .ensures))
 
 returns : tie.Need-returns
 returns c =

@@ -1,5 +1,7 @@
 -- The text is that of what reading answers. Assumes nothing.
-use Rattle.report.proofs.Outcomes.{reports, reports-nothing, unread-text, order-low, entries-low, read-text}
+use native.Mathlib.Omega.{arith}
+use Rattle.storage.proofs.RoundTrips.{read-few}
+use Rattle.report.proofs.Outcomes.{reports, reports-nothing, unread-text, order-low, read-text}
 use borrow.Author.Needs.{needs}
 use Rattle.report.proofs.report.Statement.{statement}
 use Rattle.report.proofs.report.Tie as tie
@@ -11,7 +13,7 @@ put-chain-requires : tie.Need-put-chain-requires
 put-chain-requires c κs =
     let told = c .before .before .before .before .before in
     let low = order-low (told .before .before .before .before .before .read .ensures) (search needs) (search needs) (search needs) (told .order .given .1) in
-    let few = entries-low (told .before .before .before .before .before .read .ensures) (search needs) (search needs) (search needs) (told .order .given .1) in
+    let few = read-few (told .before .before .before .before .before .read .ensures) (told .order .given .1) in
     (search needs, low, search needs, search needs, search needs)
 
 returns-2 : tie.Need-returns-2
@@ -28,7 +30,7 @@ returns-3 c =
     let given = told .before .before .before .before .before .before .before .before .before in
     reports (λ i. given .before .before .shared-slice-known .given i .fits) (given .if1 .left)
     (unread-text (told .before .before .before .before .before .read .ensures) (search needs) (search needs) (search needs) (told .refusal .given .1))
-    (c .before .before .put-refusal .ensures)
+    (c .before .before .put-refusal .ensures .0, omega (arith, c .before .before .put-refusal .ensures .1))
 
 pub report-spec : {M : Type 1} → statement M
 report-spec =

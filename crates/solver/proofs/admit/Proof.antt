@@ -1,19 +1,19 @@
--- The first refusal of 1 to 6, or the bound count and the set. Assumes nothing.
+-- The first refusal of 1 to 4, 14, 5 and 6, or the bound count and the set. Assumes nothing.
 use native.Mathlib.Omega.{arith}
 use Rattle.basics.proofs.BoolLaws.{passed, failed}
 use Rattle.markov.proofs.Members.{size-le}
 use Rattle.chain.specs.Rows.{inRows}
-use Rattle.chain.specs.Sound.{Sound}
-use Rattle.chain.proofs.Reading.{accepted-sound}
+use Rattle.chain.specs.Sound.{Accepted}
+use Rattle.chain.proofs.Reading.{accepted-whole}
 use Rattle.reach.specs.Reach.{stands}
 use Rattle.solver.proofs.Admission.{told, rules-refuse, room-refuses, sets-refuse, none-refuses}
 use borrow.Author.Needs.{needs}
 use Rattle.solver.proofs.admit.Statement.{statement}
 use Rattle.solver.proofs.admit.Tie as tie
 
--- the rules of a chain that the check lets pass
-sound : (c : tie.After-enum-told) → let a = c .before .before .before .before .before .before .args in Sound (inRows (a .n) (a .starts) (a .columns) (a .rates))
-sound c = accepted-sound _ (told (c .enum-told .given .1) (c .before .before .check .ensures .0))
+-- a chain that the check takes
+taken : (c : tie.After-enum-told) → let a = c .before .before .before .before .before .before .args in Accepted (inRows (a .n) (a .starts) (a .columns) (a .rates))
+taken c = accepted-whole _ (told (c .enum-told .given .1) (c .before .before .check .ensures .0))
 
 returns : tie.Need-returns
 returns c = rules-refuse _ _ (c .before .before .before .check .ensures .0) (c .before .enum-told2 .given .1) (c .refused .ensures)
@@ -47,12 +47,12 @@ few c κs =
     let f = c .before .before .before in
     let d = f .before .before .before in
     let a = d .before .before .before .before .before .before .args in
-    omega (arith, c .size-of .ensures, size-le (a .n) (stands (f .find-answer .result .set)), sound d .order .high)
+    omega (arith, c .size-of .ensures, size-le (a .n) (stands (f .find-answer .result .set)), taken d .sound .order .high)
 
 pub admit-spec : {M : Type 1} → statement M
 admit-spec =
     tie.close
     (tie.spec
-    (λ c κs. search needs) (λ c. search needs) (λ c. search needs) (λ c κs. search needs) returns (λ c κs. sound c .order .high) (λ c κs. search needs)
-    returns-2 (λ c κs. sound (c .before .before)) (λ c. search needs) (λ c. search needs) returns-3
-    (λ c κs. omega (arith, sound (c .before .before .before .before .before) .order .high)) few returns-4)
+    (λ c κs. search needs) (λ c. search needs) (λ c. search needs) (λ c κs. search needs) returns (λ c κs. taken c .sound .order .high) (λ c κs. search needs)
+    returns-2 (λ c κs. taken (c .before .before)) (λ c. search needs) (λ c. search needs) returns-3
+    (λ c κs. omega (arith, taken (c .before .before .before .before .before) .sound .order .high)) few returns-4)

@@ -1,4 +1,4 @@
--- A chain that 1 to 6 refuse is refused, and nothing is written; for any other the elimination of its closed set runs on the needed places.
+-- A chain that 1 to 4, 14, 5 or 6 refuses is refused, and nothing is written; for any other the elimination of its closed set runs on the needed places.
 -- Assumes nothing.
 use mathlib.Core.Path.{_≡_, ap}
 use Prim.Native.Nat.{ℕ, _<_}
@@ -51,8 +51,8 @@ solve-spec =
     tie.close
     (tie.spec
     (λ c κs. search needs) (λ c. search needs) (λ c. search needs) returns
-    (λ c. omega (arith, square _ (facts c .sound .order .high)))
-    (λ c κs. facts c .sound .order .high)
+    (λ c. omega (arith, square _ (facts c .accepted .sound .order .high)))
+    (λ c κs. facts c .accepted .sound .order .high)
     (λ c. facts (c .before) .room .for-work .for-m)
     (λ c. cut-long _ _ (facts (c .before .before) .room .for-work .for-m))
     (λ c. facts (c .before .before) .room .for-work .for-e)

@@ -38,7 +38,7 @@ add-size-3 : tie.Need-add-size-3
 add-size-3 c = omega (arith, maps-le _ (order c), accepted-count _ (got c), c .before .before .before .before .before .before .before .before .good)
 
 returns-2 : tie.Need-returns-2
-returns-2 c = write-no-room _ _ _ (got (c .before)) (c .if1 .taken)
+returns-2 c = write-no-room _ _ _ (got (c .before)) (omega (arith, c .if1 .taken))
 
 put-chain-requires : tie.Need-put-chain-requires
 put-chain-requires c κs = (got (c .before .before), c .before .if1 .left)
@@ -47,7 +47,7 @@ returns-3 : tie.Need-returns-3
 returns-3 c =
     let test = c .before .before .before .before in
     write-whole _ _ _ (got (test .before)) (λ i. test .before .before .before .before .before .before .shared-slice-known3 .given i .fits) (test .if1 .left) _
-    (c .before .before .put-chain .ensures)
+    (c .before .before .put-chain .ensures) _ (omega arith)
 
 pub write-spec : {M : Type 1} → statement M
 write-spec =

@@ -3,6 +3,7 @@ use Prim.Native.Nat.{_+_, _-_}
 use native.Mathlib.Omega.{arith}
 use borrow.Author.Needs.{needs}
 use Rattle.layout.specs.Buffers.{buffers}
+use Rattle.checking.specs.Sound.{zerosTaken}
 use Rattle.checking.proofs.Checks.{RowOfFile}
 use Rattle.packing.proofs.FileFill.{FillingAll, begin, this, asked, on, last}
 use Rattle.packing.proofs.fill.fill_rows.Statement.{statement}
@@ -18,7 +19,7 @@ abbrev μ-loop : tie.MeasureT-loop
 at-row : (c : tie.After-slice-known5 Inv-loop μ-loop)
     → let start = c .before .before .before .before .before .before .before .before .before .before .before .before .before in
     let turn = c .before .before .before .before .before .before .before .before .loop in
-    RowOfFile (start .args .bytes .now) (start .args .n) (start .args .n - (turn .row + 1)) (turn .row) (turn .map) (turn .p) (start .args .e)
+    RowOfFile zerosTaken (start .args .bytes .now) (start .args .n) (start .args .n - (turn .row + 1)) (turn .row) (turn .map) (turn .p) (start .args .e)
 at-row c =
     let test = c .before .before .before .before .before .before .before in
     this _ _ _ _ (test .before .before .before .before .before .before .pre) _ _ _ _ (test .before .loop .inv) (test .loop-test .taken)

@@ -1,0 +1,96 @@
+// What the cleaning program writes for any bytes, put at the front of a lent buffer.
+ghost use Prim.Native.Nat.{_≤_, _<_};
+ghost use lib.ListN.{length};
+ghost use Rattle.chain.specs.Rows.{inRows};
+ghost use Rattle.chain.specs.Sound.{Sound, Accepted};
+ghost use Rattle.layout.specs.Buffers.{inBuffers, chainIn};
+ghost use Rattle.layout.specs.File.{fileOf};
+ghost use Rattle.decimal.specs.Put.{Puts};
+ghost use Rattle.cleaned.specs.Cleaned.{cleaned};
+ghost use Rattle.cleaning.specs.Cleaning.{longestFile, Rewrites};
+use refusal::Outcome;
+use storage::Reading;
+
+// The file of a chain that every call takes.
+fn put_file(out: &mut [u8], order: usize, starts: &[u32], columns: &[u32], rates: &[u32]) -> usize
+    requires { ⌜ (longestFile ≤ length (now out)) × Accepted (inRows order starts columns rates) ⌝ }
+    ensures { λ r. ⌜ (Puts (now (out .entry)) 0 (fileOf (inRows order (starts .entry) (columns .entry) (rates .entry))) (now (out .exit)) r) × (r ≤ longestFile) ⌝ }
+{
+    match storage::write(order, starts, columns, rates, out) {
+        Outcome::Done(size) => size,
+        Outcome::Refused(_) => 0,
+    }
+}
+
+// The file of a chain without its entries of rate 0.
+fn put_cleaned(
+    out: &mut [u8],
+    order: usize,
+    starts: &[u32],
+    columns: &[u32],
+    rates: &[u32],
+) -> usize
+    requires { ⌜ (longestFile ≤ length (now out)) × Sound (inRows order starts columns rates) × (length (now columns) ≤ 4032) ⌝ }
+    ensures { λ r. ⌜ (Puts (now (out .entry)) 0 (fileOf (cleaned (inRows order (starts .entry) (columns .entry) (rates .entry)))) (now (out .exit)) r) × (r ≤ longestFile) ⌝ }
+{
+    let mut starts2 = [0u32; 65];
+    let mut columns2 = [0u32; 4032];
+    let mut rates2 = [0u32; 4032];
+    let kept = cleaned::clean_chain(
+        order,
+        starts,
+        columns,
+        rates,
+        &mut starts2,
+        &mut columns2,
+        &mut rates2,
+    );
+    put_file(
+        out,
+        order,
+        &starts2[..order + 1],
+        &columns2[..kept],
+        &rates2[..kept],
+    )
+}
+
+// The same for the chain that a reading left in the front of the slices.
+fn put_chain(
+    out: &mut [u8],
+    order: usize,
+    entries: usize,
+    starts: &[u32],
+    columns: &[u32],
+    rates: &[u32],
+) -> usize
+    requires { ⌜ (longestFile ≤ length (now out)) × Sound (chainIn (inBuffers starts columns rates) order entries) ×
+        (order < length (now starts)) × (entries ≤ length (now columns)) × (entries ≤ length (now rates)) × (entries ≤ 4032) ⌝ }
+    ensures { λ r. ⌜ (Puts (now (out .entry)) 0 (fileOf (cleaned (chainIn (inBuffers (starts .entry) (columns .entry) (rates .entry)) order entries))) (now (out .exit)) r) × (r ≤ longestFile) ⌝ }
+{
+    put_cleaned(
+        out,
+        order,
+        &starts[..order + 1],
+        &columns[..entries],
+        &rates[..entries],
+    )
+}
+
+// Puts the cleaned file of these bytes, or the line of their refusal, at the front of `out`: the answer is the number of its bytes. Where
+// `out` has fewer than 16641 bytes, nothing is changed and the answer is 0.
+pub fn clean(bytes: &[u8], out: &mut [u8]) -> usize
+    ensures { λ r. ⌜ Rewrites (now (bytes .entry)) (now (out .entry)) (now (out .exit)) r ⌝ }
+{
+    if out.len() < 16641 {
+        return 0;
+    }
+    let mut starts = [0u32; 65];
+    let mut columns = [0u32; 4032];
+    let mut rates = [0u32; 4032];
+    match storage::read_with_zeros(bytes, &mut starts, &mut columns, &mut rates) {
+        Reading::Chain { order, entries } => {
+            put_chain(out, order, entries, &starts, &columns, &rates)
+        }
+        Reading::Refused(refusal) => refused::put_refusal(out, refusal),
+    }
+}

@@ -1,0 +1,2 @@
+-- The length of the line of a refusal.
+pub mod RefusedLaws
