@@ -1,4 +1,4 @@
-/* The stall calculator, for C: four calls, each proved (crates/stall in the repository).
+/* The stall calculator, for C: five calls, each proved (crates/stall in the repository).
  *
  * Link with target/staticlib/libstall.a, which `rt staticlib stall` writes for x86-64 Linux.
  *
@@ -31,13 +31,15 @@
  *   14  a rate is 0: the row and the column (not the place) of the first such entry in row order. In a chain it is tried after 4 has
  *       been tried on every entry. From stall_read the bytes are at fault, from every other call the chain. The program `clean`
  *       rewrites stored chains without such entries
+ *   15  the joint chain of two parts would have more than 64 states
  * After a refusal all lent memory is unchanged, the answer slice apart.
  *
- * The answer slice. Where it has three places or more, the first three are written, always:
+ * The answer slice. Where it has three places or more, four or more for stall_join, the first three or four are written, always:
  *    after 0          what the call below says
  *    after a refusal  answer[0], answer[1]: the refusal's two places, 0 where none is named above;
- *                     answer[2]: the side at fault, STALL_CHAIN or STALL_BYTES
- * Its further places keep what they held. A slice of two places or fewer is not written; the returned number is the same.
+ *                     answer[2]: the side at fault, STALL_CHAIN or STALL_BYTES;
+ *                     answer[3], of stall_join alone: whose refusal it is, STALL_JOINT, STALL_FIRST or STALL_SECOND
+ * Its further places keep what they held. A slice with fewer is not written; the returned number is the same.
  * The answer slice never leads to refusal 5.
  */
 #ifndef STALL_H
@@ -57,6 +59,10 @@ extern "C" {
 
 #define STALL_CHAIN 0
 #define STALL_BYTES 1
+
+#define STALL_JOINT 0
+#define STALL_FIRST 1
+#define STALL_SECOND 2
 
 /* A chain of order n in rows (compressed sparse rows, places from 0, no diagonal).
  *   starts   n + 1 numbers: the first is 0, none is below the one before, the last is columns_length
@@ -144,6 +150,31 @@ uint32_t stall_write(size_t n,
                      const uint32_t *rates, size_t rates_length,
                      uint8_t *out, size_t out_length,
                      size_t *answer, size_t answer_length);
+
+/* Joins the chains of two stations side by side, of orders n1 and n2, into one chain of order n1 * n2: its state i * n2 + j has the
+ * first in state i and the second in state j. One of the two moves at a time, with its own rate. The two may be one chain, lent by the
+ * same pointers.
+ *   needs     starts: n1 * n2 + 1 places; columns and rates: n2 * (entries of the first) + n1 * (entries of the second) places
+ *             (STALL_MAX_ORDER + 1 and STALL_MAX_ENTRIES always do); places beyond keep what they held
+ *   tries     the first part by 1, 2, 3, 4, 14 in that order, then the second by the same, then 15, then 5; the side at fault is
+ *             always the chain. Places of a part's refusal are those in that part; 15 and 5 are the joint chain's, STALL_JOINT. A
+ *             part without an answer (refusal 6 of solving) is joined too
+ *   after 0   the joint chain stands in the three slices; answer[0] is the number of its entries, answer[1], answer[2] and answer[3]
+ *             are 0. To solve or to write it, pass n1 * n2 + 1 starts and answer[0] columns and rates. Where both parts have an
+ *             answer it has one, and its exact shares are the products of theirs
+ *   after a refusal  the three slices are unchanged */
+uint32_t stall_join(size_t n1,
+                    const uint32_t *starts1, size_t starts1_length,
+                    const uint32_t *columns1, size_t columns1_length,
+                    const uint32_t *rates1, size_t rates1_length,
+                    size_t n2,
+                    const uint32_t *starts2, size_t starts2_length,
+                    const uint32_t *columns2, size_t columns2_length,
+                    const uint32_t *rates2, size_t rates2_length,
+                    uint32_t *starts, size_t starts_length,
+                    uint32_t *columns, size_t columns_length,
+                    uint32_t *rates, size_t rates_length,
+                    size_t *answer, size_t answer_length);
 
 #ifdef __cplusplus
 }

@@ -1,4 +1,4 @@
-/* Tests of the four exported calls from C. Exits 0 if all hold, and says which do not. */
+/* Tests of the five exported calls from C. Exits 0 if all hold, and says which do not. */
 #include "test_memory.h"
 
 /* Case 2 of docs/FORMAT.md: 0 to 1 rate 3, 1 to 0 rate 1. */
@@ -12,6 +12,7 @@ static const uint32_t starts3[] = {0, 1, 2, 3}, columns3[] = {1, 2, 0}, rates3[]
 static const uint32_t columns7[] = {1, 0, 0}, rates7[] = {1, 1, 1};
 
 #include "test_zero_rates.h"
+#include "test_join.h"
 
 static void read_solve_write(void)
 {
@@ -333,6 +334,11 @@ int main(void)
     read_refusals();
     zero_rates();
     zero_rates_read();
+    joins();
+    joint_edges();
+    join_refusals();
+    join_room();
+    join_short_answers();
     short_buffers();
     short_answers();
     largest();

@@ -20,7 +20,7 @@ static int failed, tried;
 /* What stands in memory that a call may not touch. */
 #define MARK 0x5a
 
-static size_t answer[4];
+static size_t answer[5];
 static uint32_t starts[STALL_MAX_ORDER + 1], columns[STALL_MAX_ENTRIES], rates[STALL_MAX_ENTRIES];
 static uint32_t work_m[4096], weight_m[64], share_m[64], group_m[STALL_GROUPS + 4];
 static int32_t work_e[4096], weight_e[64], share_e[64], group_e[STALL_GROUPS + 4];
@@ -76,7 +76,7 @@ static int results_unchanged(void)
 
 static int answer_is(size_t first, size_t second, size_t third)
 {
-    return answer[0] == first && answer[1] == second && answer[2] == third && all_marked(answer + 3, 0, sizeof answer[3]);
+    return answer[0] == first && answer[1] == second && answer[2] == third && all_marked(answer + 3, 0, 2 * sizeof answer[3]);
 }
 
 static int state_is(int i, uint32_t wm, int32_t we, uint32_t sm, int32_t se)

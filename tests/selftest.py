@@ -9,6 +9,7 @@ from pathlib import Path
 from types import SimpleNamespace
 
 import closed_files
+import joint_checks
 import scaled_checks
 import worked
 import zero_checks
@@ -19,6 +20,8 @@ from exact_solver import weights_by_minors, weights_by_trees
 from generate import sound, stored, with_zeros
 from groups_model import GROUPS, HELD, outcome, packed, places_needed, told
 from groups_run import EDGES, ORDER, call_bytes, call_of
+from joint_model import joining, lines
+from joint_run import EDGES as JOINT_EDGES, pair_of
 from scaled_model import ZERO, rate_of, value
 from shares_view import guaranteed, relative, rounded
 from stored_chain import Refused, cleaned, read, write
@@ -325,12 +328,24 @@ def group_slips(seed=1, most=400):
     return f"{len(GROUP_SLIPS)} slips of groups, each told apart by the first {most} calls of seed {seed}, which meet every refusal"
 
 
+def joint_slips(seed=1, most=400):
+    """Slips of request R-6, each told apart by the pairs of a run, by those worked out by hand, or by calls with chains in memory."""
+    parts, pairs = ("tests/chain_model", "python/stored_chain", "tests/joint_model"), [pair_of(seed, i) for i in range(most)]
+    all_told_apart(joint_checks.SLIPS + joint_checks.ROOM_SLIPS, parts, lines, pairs[:len(JOINT_EDGES)])
+    all_told_apart(joint_checks.SLIPS, parts, lines, pairs[len(JOINT_EDGES):])
+    for calls in ([call for _, *call in joint_checks.calls_by_hand()], list(joint_checks.calls_by_chance(random.Random(seed)))):
+        all_told_apart(joint_checks.CALL_SLIPS, parts, joining, calls)
+    return (f"{len(joint_checks.SLIPS)} slips of joining, each told apart by the pairs drawn by chance of the first {most} of seed {seed} and by those "
+            f"worked out by hand, {len(joint_checks.CALL_SLIPS)} by calls with chains in memory")
+
+
 def main():
     rng = random.Random(1)
     parts = (worked_cases, lambda: scaled_checks.operations(rng), scaled_checks.short_words, scaled_checks.ends,
              rounding_slips, no_number, lambda: exact_solvers(rng), lambda: closed_by_all_means(rng), factors,
              lambda: round_trip(rng), examples, power_on_files, digits, slips, zero_checks.worked_cases, zero_checks.promises,
-             zero_checks.zero_files, zero_slips, group_cases, group_slips)
+             zero_checks.zero_files, zero_slips, group_cases, group_slips, joint_checks.worked_cases, lambda: joint_checks.products(rng),
+             joint_checks.pairs_met, joint_slips)
     for part in parts:
         try:
             print("ok:", part())

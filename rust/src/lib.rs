@@ -1,4 +1,5 @@
-//! Safe calls of the stall calculator: the weights and shares of a chain of at most 64 states, and the shares of groups of them.
+//! Safe calls of the stall calculator: the weights and shares of a chain of at most 64 states, the shares of groups of them, and the
+//! joint chain of two stations side by side.
 //!
 //! The library below is proved: whatever it is given, it answers with results whose distance from the exact ones is bounded, or
 //! with the first refusal that applies. This crate only lends it memory and turns its answers into Rust's types; it is tested and
@@ -36,7 +37,7 @@ mod refusal;
 mod scaled;
 pub mod sys;
 
-pub use refusal::{BytesReason, ChainReason, Refusal};
+pub use refusal::{BytesReason, ChainReason, JoinRefusal, Part, Refusal};
 pub use scaled::Scaled;
 
 /// The largest order.
@@ -289,4 +290,65 @@ pub fn write(chain: &Chain) -> Result<Vec<u8>, Refusal> {
     }
     out.truncate(answer[0]);
     Ok(out)
+}
+
+/// Joins the chains of two stations side by side: the joint chain's state i × b + j has the first in state i and the second in state j,
+/// b being the order of the second, and one of the two moves at a time, with its own rate. Or it gives the first refusal: of the first
+/// part by 1, 2, 3, 4 and 14, of the second by the same, of the joint chain by 15.
+///
+/// Where both parts have an answer the joint chain has one, and its exact shares are the products of theirs. Parts without an answer are
+/// joined too.
+///
+/// ```
+/// let two = stall::read(&[2, 2, 3, 0, 0, 0, 1, 1, 0, 0, 0])?;
+/// let joint = stall::join(&two, &two).unwrap();
+/// assert_eq!(joint.order, 4);
+/// // Each is in state 1 for 3/4 of the time, both at once for 9/16.
+/// assert_eq!(stall::solve(&joint)?.shares[3].to_f64(), 0.5625);
+/// # Ok::<(), stall::Refusal>(())
+/// ```
+pub fn join(first: &Chain, second: &Chain) -> Result<Chain, JoinRefusal> {
+    let mut starts = vec![0u32; MAX_ORDER + 1];
+    let (mut columns, mut rates) = (vec![0u32; MAX_ENTRIES], vec![0u32; MAX_ENTRIES]);
+    let mut answer = [0usize; 4];
+    // SAFETY: each pointer and length are those of one live slice; the mutable ones are different vectors and one array.
+    let number = unsafe {
+        sys::stall_join(
+            first.order,
+            first.starts.as_ptr(),
+            first.starts.len(),
+            first.columns.as_ptr(),
+            first.columns.len(),
+            first.rates.as_ptr(),
+            first.rates.len(),
+            second.order,
+            second.starts.as_ptr(),
+            second.starts.len(),
+            second.columns.as_ptr(),
+            second.columns.len(),
+            second.rates.as_ptr(),
+            second.rates.len(),
+            starts.as_mut_ptr(),
+            starts.len(),
+            columns.as_mut_ptr(),
+            columns.len(),
+            rates.as_mut_ptr(),
+            rates.len(),
+            answer.as_mut_ptr(),
+            answer.len(),
+        )
+    };
+    if number != 0 {
+        return Err(JoinRefusal::told(number, answer));
+    }
+    let order = first.order * second.order;
+    starts.truncate(order + 1);
+    columns.truncate(answer[0]);
+    rates.truncate(answer[0]);
+    Ok(Chain {
+        order,
+        starts,
+        columns,
+        rates,
+    })
 }

@@ -26,6 +26,8 @@ pub enum ChainReason {
     TableRow { row: usize },
     /// 14: a rate is 0, first at this entry.
     ZeroRate { row: usize, column: usize },
+    /// 15: the joint chain of two parts would have more than 64 states.
+    JointOrder,
 }
 
 /// Why stored bytes are turned away.
@@ -53,7 +55,7 @@ pub enum Refusal {
 }
 
 impl Refusal {
-    /// The refusal's number: 1 to 6, or 8 to 14.
+    /// The refusal's number: 1 to 6, or 8 to 15.
     pub fn number(self) -> u32 {
         match self {
             Refusal::Chain(reason) => match reason {
@@ -67,6 +69,7 @@ impl Refusal {
                 ChainReason::InTwoRows { .. } => 12,
                 ChainReason::TableRow { .. } => 13,
                 ChainReason::ZeroRate { .. } => 14,
+                ChainReason::JointOrder => 15,
             },
             Refusal::Bytes(reason) => match reason {
                 BytesReason::Order => 1,
@@ -95,7 +98,7 @@ impl Refusal {
         }
     }
 
-    /// From what a call returned and its three answer places. The calls' contracts leave no other numbers and sides.
+    /// From what a call returned and its first three answer places. The calls' contracts leave no other numbers and sides.
     pub(crate) fn told(number: u32, answer: [usize; 3]) -> Refusal {
         let [first, second, side] = answer;
         match (side, number) {
@@ -115,6 +118,7 @@ impl Refusal {
                 row: first,
                 column: second,
             }),
+            (0, 15) => Refusal::Chain(ChainReason::JointOrder),
             (1, 1) => Refusal::Bytes(BytesReason::Order),
             (1, 5) => Refusal::Bytes(BytesReason::Room),
             (1, 8) => Refusal::Bytes(BytesReason::Short),
@@ -140,3 +144,52 @@ impl fmt::Display for Refusal {
 }
 
 impl Error for Refusal {}
+
+/// Whose refusal a joining gives.
+#[derive(Clone, Copy, Debug, PartialEq, Eq, Hash)]
+pub enum Part {
+    /// The joint chain's: the two parts are sound, and it would have more than 64 states.
+    Joint,
+    First,
+    Second,
+}
+
+/// Why two chains are not joined: a refusal, and whose it is. The places of a part's refusal are those in that part.
+#[derive(Clone, Copy, Debug, PartialEq, Eq, Hash)]
+pub struct JoinRefusal {
+    pub part: Part,
+    pub refusal: Refusal,
+}
+
+impl JoinRefusal {
+    /// From what a joining returned and its four answer places. Its contract leaves no other part.
+    pub(crate) fn told(number: u32, answer: [usize; 4]) -> JoinRefusal {
+        let [first, second, side, part] = answer;
+        let part = match part {
+            0 => Part::Joint,
+            1 => Part::First,
+            2 => Part::Second,
+            _ => unreachable!("the library's contract has no part {part}"),
+        };
+        JoinRefusal {
+            part,
+            refusal: Refusal::told(number, [first, second, side]),
+        }
+    }
+}
+
+impl fmt::Display for JoinRefusal {
+    fn fmt(&self, f: &mut fmt::Formatter<'_>) -> fmt::Result {
+        match self.part {
+            Part::Joint => write!(f, "{}", self.refusal),
+            Part::First => write!(f, "first part: {}", self.refusal),
+            Part::Second => write!(f, "second part: {}", self.refusal),
+        }
+    }
+}
+
+impl Error for JoinRefusal {
+    fn source(&self) -> Option<&(dyn Error + 'static)> {
+        Some(&self.refusal)
+    }
+}

@@ -1,4 +1,4 @@
-//! The four exported calls as they are; `capi/stall.h` has their contracts.
+//! The five exported calls as they are; `capi/stall.h` has their contracts.
 
 extern "C" {
     pub fn stall_solve(
@@ -78,6 +78,31 @@ extern "C" {
         rates_length: usize,
         out: *mut u8,
         out_length: usize,
+        answer: *mut usize,
+        answer_length: usize,
+    ) -> u32;
+
+    pub fn stall_join(
+        n1: usize,
+        starts1: *const u32,
+        starts1_length: usize,
+        columns1: *const u32,
+        columns1_length: usize,
+        rates1: *const u32,
+        rates1_length: usize,
+        n2: usize,
+        starts2: *const u32,
+        starts2_length: usize,
+        columns2: *const u32,
+        columns2_length: usize,
+        rates2: *const u32,
+        rates2_length: usize,
+        starts: *mut u32,
+        starts_length: usize,
+        columns: *mut u32,
+        columns_length: usize,
+        rates: *mut u32,
+        rates_length: usize,
         answer: *mut usize,
         answer_length: usize,
     ) -> u32;

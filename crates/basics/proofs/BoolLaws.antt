@@ -1,12 +1,13 @@
--- Tests joined by "and" and "or", from the values of their parts and back; a test at all numbers below n; a value told by a test. Assumes nothing.
+-- Tests joined by "and" and "or", from the values of their parts and back; a test at all numbers below n; a value told by a test; a test as a number.
+-- Assumes nothing.
 use mathlib.Core.Bool.{Bool, true, false, cond, not, _&&_, _||_, false≢true, and-eq-true-iff}
 use mathlib.Core.Logic.{_⊎_, inl, inr}
 use mathlib.Core.Path.{_≡_, refl, sym, ap₂, _∙_}
-use Prim.Native.Nat.{ℕ, zero, suc, _+_, _<_}
+use Prim.Native.Nat.{ℕ, zero, suc, _+_, _≤_, _<_}
 use native.Mathlib.Omega.{arith}
 use native.Mathlib.Decide.{ℕ-discrete}
 use borrow.Author.Tests.{not-true, not-false}
-use Rattle.basics.specs.Below.{all}
+use Rattle.basics.specs.Below.{count, all}
 
 pub and-yes : (a b : Bool) → a ≡ true → b ≡ true → (a && b) ≡ true
 and-yes a b p q = rw (p, q)
@@ -105,3 +106,10 @@ all-or-not (suc n) p = go (p n) refl (all-or-not n p)
     go true e (inl h) = inl (rw (e, h))
     go true e (inr h) = inr (h .0, omega (arith, h .1), h .2)
     go false e h = inr (n, omega arith, e)
+
+-- ---- a test as a number
+
+pub count-most : (b : Bool) → count b ≤ 1
+unfolding count
+count-most true = omega arith
+count-most false = omega arith

@@ -1,7 +1,7 @@
 -- Laws of finite sums and products. Assumes nothing.
 use mathlib.Core.Path.{_≡_, refl}
 use Prim.Native.Nat.{ℕ, zero, suc, _+_, _*_, _^_, _≤_, _<_, zero-le, suc-le-suc}
-use native.Mathlib.Nat.{le-refl, not-suc-le-zero, mul-le-mul, pow-zero, pow-suc}
+use native.Mathlib.Nat.{le-refl, not-suc-le-zero, mul-le-mul, pow-zero, pow-suc, suc-add, zero-add}
 use native.Mathlib.Omega.{arith}
 use Rattle.basics.specs.Sum.{sum, prod}
 
@@ -36,6 +36,17 @@ mul-sum (suc n) k f = omega (arith, mul-sum n k (λ i. f (suc i)))
 
 pub sum-lin : (n a b : ℕ) (f h : ℕ → ℕ) → sum n (λ i. a * f i + b * h i) ≡ a * sum n f + b * sum n h
 sum-lin n a b f h = simp (sum-add, mul-sum)
+
+-- the terms from a on, and n equal terms
+pub sum-split : (a k : ℕ) (f : ℕ → ℕ) → sum (a + k) f ≡ sum a f + sum k (λ q. f (a + q))
+unfolding sum
+sum-split zero k f = simp zero-add
+sum-split (suc a) k f = simp suc-add (omega (arith, sum-split a k (λ q. f (suc q))))
+
+pub sum-same : (n c : ℕ) → sum n (λ i. c) ≡ n * c
+unfolding sum
+sum-same zero c = omega arith
+sum-same (suc n) c = omega (arith, sum-same n c)
 
 -- a term is at most the sum
 pub term-le-sum : (n : ℕ) (f : ℕ → ℕ) (i : ℕ) → i < n → f i ≤ sum n f

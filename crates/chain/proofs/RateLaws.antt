@@ -1,7 +1,7 @@
 -- The rates that a chain in rows describes: an entry's own rate at its column, 0 where the row has no entry. Assumes nothing.
 use Prim.Native.Nat.{ℕ, zero, suc, _+_, _-_, _<_, _≤_}
 use mathlib.Core.Logic.{_≢_}
-use mathlib.Core.Path.{_≡_, refl, _∙_}
+use mathlib.Core.Path.{_≡_, refl, sym, _∙_}
 use native.Mathlib.Decide.{ℕ-discrete, decLt}
 use native.Mathlib.Omega.{arith}
 use lib.ListN.{getD}
@@ -93,6 +93,34 @@ module _ {c : Rows} (s : Sound c) (i : ℕ) (l : i < c .order) where
       (λ q m d. adds-other c j (begin + q) (column-once (begin + q) place (omega arith) (omega arith) a b (λ h. d (omega arith))))
       ∙ rw e (adds-own c j place refl)
 
+  -- no move leads from a state to itself
+  pub rate-own : rateIn c i i ≡ 0
+  rate-own = rate-none c i i (λ place a b. s .columns-rule .entry i place l a b .not-row)
+
   -- no move leads to a state that there is not
   pub rate-beyond : (j : ℕ) → c .order ≤ j → rateIn c i j ≡ 0
   rate-beyond j h = rate-none c i j (λ place a b e. omega (arith, s .columns-rule .entry i place l a b .below))
+
+-- ---- the look-up of one rate
+
+-- none of row i's entries before a place stands at column j
+pub record NoneBefore (c : Rows) (i j place : ℕ) : Type 0 where
+  pub low : begins c i ≤ place
+  pub none : (p : ℕ) → begins c i ≤ p → p < place → columnAt c p ≢ j
+
+module _ {c : Rows} (i j : ℕ) where
+  pub none-first : NoneBefore c i j (begins c i)
+  none-first = record { low = omega arith; none = λ p a b. absurd (omega arith) }
+
+  module _ (place : ℕ) (h : NoneBefore c i j place) where
+    pub none-next : columnAt c place ≢ j → NoneBefore c i j (place + 1)
+    none-next d = record { low = omega (arith, h .low); none = none }
+      where
+        none : (p : ℕ) → begins c i ≤ p → p < place + 1 → columnAt c p ≢ j
+        none p a m = elim (ℕ-discrete p place) [ yes e ↦ rw e d | no e ↦ h .none p a (omega arith) ]
+
+    pub none-end : ends c i ≤ place → 0 ≡ rateIn c i j
+    none-end b = sym (rate-none c i j (λ p a m. h .none p a (omega arith)))
+
+    pub found-rate : Sound c → i < c .order → place < ends c i → columnAt c place ≡ j → getD (c .rates) place 0 ≡ rateIn c i j
+    found-rate s l b e = sym (rw e at (entry-rate s i l place (h .low) b))

@@ -1,4 +1,4 @@
-// Chains in rows: the checks 1 to 4 and 14, and the row look-up.
+// Chains in rows: the checks 1 to 4 and 14, and the look-up of a row and of a rate.
 ghost use mathlib.Core.Path.{_≡_};
 ghost use mathlib.Core.Bool.{true};
 ghost use mathlib.Core.List.{List};
@@ -10,6 +10,7 @@ ghost use Rattle.chain.specs.Rows.{rows, inRows};
 ghost use Rattle.chain.specs.Rules.{orderSound, fallsAt, startsSound, entryBad, columnsChecked, rulesChecked, firstZero, rowOf, zerosChecked, checked};
 ghost use Rattle.chain.specs.Sound.{Sound, Says};
 ghost use Rattle.chain.specs.Row.{rowPart, rowRates, standsAt};
+ghost use Rattle.chain.specs.Meaning.{rateIn};
 use refusal::ChainReason;
 use refusal::Outcome;
 use refusal::Refusal;
@@ -201,4 +202,20 @@ pub fn row_rates<'a>(
     let begin = starts[row] as usize;
     let end = starts[row + 1] as usize;
     &rates[begin..end]
+}
+
+// The rate from state i to state j of a chain that keeps the rules: that of row i's entry at column j, or 0 where it has none (internal).
+pub fn rate_of(n: usize, starts: &[u32], columns: &[u32], rates: &[u32], i: usize, j: usize) -> u32
+    requires { ⌜ Sound (inRows n starts columns rates) × (i < n) ⌝ }
+    ensures { λ r. ⌜ r ≡ rateIn (inRows n (starts .entry) (columns .entry) (rates .entry)) i j ⌝ }
+{
+    let mut place = starts[i] as usize;
+    let end = starts[i + 1] as usize;
+    while place < end {
+        if wide(columns[place]) == j {
+            return rates[place];
+        }
+        place += 1;
+    }
+    0
 }

@@ -1,13 +1,13 @@
 -- A chain without its entries of rate 0: it keeps the rules of a chain and has the same rates between states. Assumes nothing.
-use Prim.Native.Nat.{ℕ, zero, suc, _+_, _-_, _<_, _≤_}
+use Prim.Native.Nat.{ℕ, suc, _+_, _-_, _<_, _≤_}
 use mathlib.Core.List.{List, [], _∷_, map}
 use mathlib.Core.Path.{_≡_, refl, sym, ap, _∙_}
 use native.Mathlib.Decide.{decLt}
 use native.Mathlib.Omega.{arith}
-use native.Mathlib.Nat.{suc-add, zero-add}
 use lib.ListN.{length, getD, take, List·getD-map, List·getD-eq-default}
 use lib.Seq.{take-length, length-take-le, getD-take, ext-getD}
 use Rattle.basics.specs.Sum.{sum}
+use Rattle.basics.proofs.SumLaws.{sum-split}
 use Rattle.chain.specs.Rows.{Rows, begins, ends, columnAt}
 use Rattle.chain.specs.Sound.{Sound, SoundStarts, SoundEntry, AllPositive}
 use Rattle.chain.specs.Meaning.{adds, rateIn}
@@ -110,13 +110,8 @@ module _ {c : Rows} (s : Sound c) where
 -- ---- the rates
 
 -- a sum cut at a
-sum-from : (a k : ℕ) (f : ℕ → ℕ) → sum (a + k) f ≡ sum a f + sum k (λ q. f (a + q))
-unfolding sum
-sum-from zero k f = simp zero-add
-sum-from (suc a) k f = simp suc-add (omega (arith, sum-from a k (λ q. f (suc q))))
-
 sum-part : (a b : ℕ) (f : ℕ → ℕ) → a ≤ b → sum a f + sum (b - a) (λ q. f (a + q)) ≡ sum b f
-sum-part a b f l = let e : a + (b - a) ≡ b = omega arith in sym (rw e at (sum-from a (b - a) f))
+sum-part a b f l = let e : a + (b - a) ≡ b = omega arith in sym (rw e at (sum-split a (b - a) f))
 
 pub cleaned-rates : {c : Rows} → Sound c → (i j : ℕ) → i < c .order → rateIn (cleaned c) i j ≡ rateIn c i j
 unfolding rateIn cleaned

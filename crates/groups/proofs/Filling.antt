@@ -1,6 +1,5 @@
 -- Places changed one after another, and rows one after another. Assumes nothing.
 use Prim.Native.Nat.{ℕ, suc, _+_, _≤_, _<_}
-use mathlib.Core.Bool.{Bool, true, false}
 use mathlib.Core.List.{List}
 use mathlib.Core.Logic.{_⊎_, inl, inr, ⊎-elim}
 use mathlib.Core.Path.{_≡_, refl, sym, ap, _∙_}
@@ -14,6 +13,7 @@ use lib.Seq.{getD-set-same, getD-set-other}
 use Rattle.basics.specs.Below.{count}
 use Rattle.basics.specs.First.{first}
 use Rattle.basics.proofs.SumLaws.{sum-zero, sum-last, sum-most}
+use Rattle.basics.proofs.BoolLaws.{count-most}
 use Rattle.basics.proofs.FirstLaws.{first-cong}
 use Rattle.basics.proofs.FillLaws.{getD-replicate, length-replicate}
 use Rattle.group_table.specs.Rules.{rowCount, firstState, lastState, groupNumber, holds, holders, inTwoRows, inNoRow, firstInTwo, firstInNone}
@@ -73,11 +73,7 @@ module _ (table : List ℕ) where
   -- no more rows hold a state than there are
   pub holders-most : (k state : ℕ) → holders table k state ≤ k
   unfolding holders
-  holders-most k state = omega (arith, sum-most k 1 (λ row. count (holds table state row)) (λ row _. at-most-1 (holds table state row)))
-    where
-      at-most-1 : (b : Bool) → count b ≤ 1
-      at-most-1 true = unfold count in omega arith
-      at-most-1 false = unfold count in omega arith
+  holders-most k state = omega (arith, sum-most k 1 (λ row. count (holds table state row)) (λ row _. count-most (holds table state row)))
 
   pub counted-next : {k : ℕ} {seen seen′ : List ℕ} → Counted table k seen → Changed suc (firstState table k) (lastState table k) seen seen′
       → Counted table (k + 1) seen′

@@ -1,6 +1,7 @@
--- The worked cases, the theorems of the exact theory, the elimination's error bound, and both for a closed set.
+-- The worked cases, the theorems of the exact theory, the elimination's error bound, both for a closed set, and two parts side by side.
 pub mod AllTrees
 pub mod AloneCases
+pub mod JointCases
 pub mod StepCounts
 pub mod ExactNumbers
 pub mod Cases
@@ -30,3 +31,5 @@ pub mod SetBalance
 pub mod SetBound
 pub mod WholeSet
 pub mod SameSet
+pub mod Product
+pub mod ProductSets

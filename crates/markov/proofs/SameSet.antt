@@ -5,8 +5,10 @@ use Prim.Native.Nat.{ℕ, zero, suc, _-_, _<_, suc-le-suc}
 use native.Mathlib.Omega.{arith}
 use Rattle.basics.proofs.SumLaws.{sum-cong}
 use Rattle.basics.specs.Below.{count}
+use Rattle.markov.specs.Chain.{Rates}
+use Rattle.markov.specs.Weight.{weight}
 use Rattle.markov.specs.Elimination.{Ops, weights, shares}
-use Rattle.markov.specs.Closed.{size, member, alone, spread, setWeights, setShares}
+use Rattle.markov.specs.Closed.{size, member, alone, spread, setWeight, setWeights, setShares}
 
 abbrev pub Same : ℕ → (ℕ → Bool) → (ℕ → Bool) → Type 0
 Same n a b = (i : ℕ) → i < n → a i ≡ b i
@@ -32,6 +34,11 @@ module _ (n : ℕ) {a b : ℕ → Bool} (e : Same n a b) where
   spread-cong : {X : Type 0} (nought : X) {f g : ℕ → X} → f ≡ g → (i : ℕ) → i < n → spread a nought f i ≡ spread b nought g i
   unfolding spread
   spread-cong nought {f} {g} h i l = rw (e i l, size-cong i {a = a} {b = b} (λ j m. e j (omega arith)), h)
+
+  -- the exact weights, and those of an elimination
+  pub set-weight-cong : (rate : Rates) (i : ℕ) → i < n → setWeight n rate a i ≡ setWeight n rate b i
+  unfolding setWeight
+  set-weight-cong rate = spread-cong 0 (ap₂ weight (size-cong n e) (alone-cong rate))
 
   module _ {X : Type 0} (O : Ops X) (x : ℕ → ℕ → X) where
     pub set-weights-cong : (i : ℕ) → i < n → setWeights O n a x i ≡ setWeights O n b x i

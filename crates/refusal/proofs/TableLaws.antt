@@ -18,6 +18,7 @@ never-7 (Chain (chain.InNoRow state)) e = omega arith
 never-7 (Chain (chain.InTwoRows state)) e = omega arith
 never-7 (Chain (chain.TableRow row)) e = omega arith
 never-7 (Chain (chain.ZeroRate row column)) e = omega arith
+never-7 (Chain chain.JointOrder) e = omega arith
 never-7 (Bytes bytes.Order) e = omega arith
 never-7 (Bytes bytes.Room) e = omega arith
 never-7 (Bytes bytes.Short) e = omega arith

@@ -29,6 +29,7 @@ chainLine (chain.InNoRow state) = numbered 11 state 0
 chainLine (chain.InTwoRows state) = numbered 12 state 0
 chainLine (chain.TableRow row) = numbered 13 row 0
 chainLine (chain.ZeroRate row column) = numbered 14 row column
+chainLine chain.JointOrder = numbered 15 0 0
 
 -- the table, for stored bytes
 abbrev pub bytesLine : BytesReason → Line

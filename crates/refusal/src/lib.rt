@@ -19,6 +19,8 @@ pub enum ChainReason {
     TableRow(usize),
     // Row, column.
     ZeroRate(usize, usize),
+    // Two parts whose joint chain has more than 64 states.
+    JointOrder,
 }
 
 // Why stored bytes are turned away.
@@ -76,6 +78,7 @@ fn chain_line(reason: ChainReason) -> Line
         ChainReason::InTwoRows(state) => table_line(12, state, 0),
         ChainReason::TableRow(row) => table_line(13, row, 0),
         ChainReason::ZeroRate(row, column) => table_line(14, row, column),
+        ChainReason::JointOrder => table_line(15, 0, 0),
     }
 }
 

@@ -10,11 +10,14 @@ use Rattle.storage.specs.declared.Reading.{Reading}
 use Rattle.layout.specs.Buffers.{Buffers}
 use Rattle.storage.specs.Reading.{told, Read}
 use Rattle.storage.specs.Writing.{Written}
+use Rattle.joined.specs.Verdict.{Whose}
+use Rattle.joint.specs.declared.Joining.{Joining}
+use Rattle.joint.specs.Joining.{toldJoining, Joins}
 use Rattle.solver.specs.Lent.{Lent}
 use Rattle.solver.specs.Solve.{Solved}
 use Rattle.group_shares.specs.GroupShares.{GroupLent, GroupsSolved}
-use Rattle.telling.specs.Answer.{CountTold, ReadingTold}
-use Rattle.stall.specs.Calls.{SolveCalled, GroupsCalled, ReadCalled, WriteCalled}
+use Rattle.telling.specs.Answer.{CountTold, ReadingTold, JoiningTold}
+use Rattle.stall.specs.Calls.{SolveCalled, GroupsCalled, ReadCalled, WriteCalled, JoinCalled}
 
 module _ {answer : List ℕ} {r : ℕ} {answer′ : List ℕ} where
   pub solve-called : {c : Rows} {old : Lent} {o : Outcome} {new : Lent} → Solved c old o new → CountTold (verdict o) answer r answer′ → SolveCalled c old answer r new answer′
@@ -31,3 +34,7 @@ module _ {answer : List ℕ} {r : ℕ} {answer′ : List ℕ} where
   pub write-called : {c : Rows} {out : List ℕ} {o : Outcome} {out′ : List ℕ} → Written c out o out′ → CountTold (verdict o) answer r answer′
       → WriteCalled c out answer r out′ answer′
   write-called {o = o} s t = record { outcome = o; call = s; told = subst (λ (v : Verdict ℕ). CountTold v answer r answer′) (s .answer) t }
+
+  pub join-called : {first second : Rows} {old : Buffers} {o : Joining} {new : Buffers} → Joins first second old o new → JoiningTold (toldJoining o) answer r answer′
+      → JoinCalled first second old answer r new answer′
+  join-called {o = o} s t = record { outcome = o; call = s; told = subst (λ (v : Whose × Verdict ℕ). JoiningTold v answer r answer′) (s .answer) t }

@@ -11,10 +11,13 @@ use Rattle.checking.specs.Sound.{zerosRefused}
 use Rattle.checking.specs.Verdict.{readVerdict}
 use Rattle.storage.specs.Reading.{Read}
 use Rattle.storage.specs.Writing.{writeVerdict, Written}
+use Rattle.joined.specs.Verdict.{joinVerdict}
+use Rattle.joint.specs.declared.Joining.{Joining}
+use Rattle.joint.specs.Joining.{Joins}
 use Rattle.solver.specs.Lent.{Lent, enoughIn}
 use Rattle.solver.specs.Solve.{solved, Solved}
 use Rattle.group_shares.specs.GroupShares.{GroupLent, enoughFor, groupsSolved, GroupsSolved}
-use Rattle.telling.specs.Answer.{CountTold, ReadingTold}
+use Rattle.telling.specs.Answer.{CountTold, ReadingTold, JoiningTold}
 
 pub record SolveCalled (c : Rows) (old : Lent) (answer : List ℕ) (r : ℕ) (new : Lent) (answer′ : List ℕ) : Type 0 where
   pub outcome : Outcome
@@ -35,3 +38,8 @@ pub record WriteCalled (c : Rows) (out answer : List ℕ) (r : ℕ) (out′ answ
   pub outcome : Outcome
   pub call : Written c out outcome out′
   pub told : CountTold (writeVerdict c (length out)) answer r answer′
+
+pub record JoinCalled (first second : Rows) (old : Buffers) (answer : List ℕ) (r : ℕ) (new : Buffers) (answer′ : List ℕ) : Type 0 where
+  pub outcome : Joining
+  pub call : Joins first second old outcome new
+  pub told : JoiningTold (joinVerdict first second (length (old .starts)) (length (old .columns)) (length (old .rates))) answer r answer′

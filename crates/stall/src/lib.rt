@@ -1,10 +1,10 @@
-// The public calls, exported for C: a number is returned, and three places of a lent slice take the rest of the answer.
-// `capi/stall.h` declares them. No call asks anything of its lent slices: any lengths do.
+// The public calls, exported for C: a number is returned, and three places of a lent slice, four for `stall_join`, take the rest of the
+// answer. `capi/stall.h` declares them. No call asks anything of its lent slices: any lengths do.
 ghost use Rattle.chain.specs.Rows.{inRows};
 ghost use Rattle.layout.specs.Buffers.{inBuffers};
 ghost use Rattle.solver.specs.Lent.{lent};
 ghost use Rattle.group_shares.specs.GroupShares.{groupLent};
-ghost use Rattle.stall.specs.Calls.{SolveCalled, GroupsCalled, ReadCalled, WriteCalled};
+ghost use Rattle.stall.specs.Calls.{SolveCalled, GroupsCalled, ReadCalled, WriteCalled, JoinCalled};
 
 // Solves a chain, as `solver::solve` does: the answer's first place is the bound count.
 #[no_mangle]
@@ -100,4 +100,42 @@ pub extern "C" fn stall_write(
 {
     let outcome = storage::write(n, starts, columns, rates, out);
     telling::tell_count(outcome, answer)
+}
+
+// Joins two chains, as `joint::join` does: the answer's first place is the number of entries; it has four places, the fourth tells which part
+// a refusal is of.
+#[no_mangle]
+pub extern "C" fn stall_join(
+    n1: usize,
+    starts1: &[u32],
+    columns1: &[u32],
+    rates1: &[u32],
+    n2: usize,
+    starts2: &[u32],
+    columns2: &[u32],
+    rates2: &[u32],
+    starts: &mut [u32],
+    columns: &mut [u32],
+    rates: &mut [u32],
+    answer: &mut [usize],
+) -> u32
+    ensures { λ r. ⌜ JoinCalled (inRows n1 (starts1 .entry) (columns1 .entry) (rates1 .entry))
+        (inRows n2 (starts2 .entry) (columns2 .entry) (rates2 .entry))
+        (inBuffers (starts .entry) (columns .entry) (rates .entry)) (now (answer .entry)) r
+        (inBuffers (starts .exit) (columns .exit) (rates .exit)) (now (answer .exit)) ⌝ }
+{
+    let joining = joint::join(
+        n1,
+        starts1,
+        columns1,
+        rates1,
+        n2,
+        starts2,
+        columns2,
+        rates2,
+        starts,
+        columns,
+        rates,
+    );
+    telling::tell_joining(joining, answer)
 }

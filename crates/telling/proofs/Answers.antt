@@ -1,17 +1,25 @@
--- The answer slice: one with room takes the three places, a shorter one is kept. Assumes nothing.
+-- The answer slice: one with room takes the places, a shorter one is kept. Assumes nothing.
 use mathlib.Core.Bool.{Bool, cond}
 use mathlib.Core.List.{List, [], _∷_}
-use mathlib.Core.Path.{_≡_, ap, sym}
+use mathlib.Core.Path.{_≡_, ap, sym, _∙_}
 use Prim.Native.Nat.{ℕ, _<_, _≤_}
+use native.Mathlib.Omega.{arith}
 use lib.ListN.{length, set}
 use lib.Seq.{sets}
 use borrow.Author.Tests.{le-leb, lt-leb}
 use Rattle.telling.specs.Answer.{handed}
 
-pub three-put : (a : List ℕ) (first second third : ℕ) → 3 ≤ length a → set (set (set a 0 first) 1 second) 2 third ≡ handed a (first ∷ second ∷ third ∷ [])
+pub room-put : (a places : List ℕ) → length places ≤ length a → sets a 0 places ≡ handed a places
 unfolding handed
-three-put a first second third h = sym (ap (λ (b : Bool). cond b (sets a 0 (first ∷ second ∷ third ∷ [])) a) (le-leb 3 (length a) h))
+room-put a places h = sym (ap (λ (b : Bool). cond b (sets a 0 places) a) (le-leb (length places) (length a) h))
 
-pub none-put : (a places : List ℕ) → length a < 3 → a ≡ handed a places
+pub none-put : (a places : List ℕ) → length a < length places → a ≡ handed a places
 unfolding handed
-none-put a places h = sym (ap (λ (b : Bool). cond b (sets a 0 places) a) (lt-leb 3 (length a) h))
+none-put a places h = sym (ap (λ (b : Bool). cond b (sets a 0 places) a) (lt-leb (length places) (length a) h))
+
+-- the first three of four places by one step, the fourth by the next
+pub fourth-put : (a a′ : List ℕ) (first second third fourth : ℕ) → 4 ≤ length a → a′ ≡ handed a (first ∷ second ∷ third ∷ [])
+    → set a′ 3 fourth ≡ handed a (first ∷ second ∷ third ∷ fourth ∷ [])
+fourth-put a a′ first second third fourth h e =
+    ap (λ (x : List ℕ). set x 3 fourth) (e ∙ sym (room-put a (first ∷ second ∷ third ∷ []) (omega (arith, h))))
+    ∙ room-put a (first ∷ second ∷ third ∷ fourth ∷ []) h

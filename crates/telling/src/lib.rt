@@ -1,9 +1,12 @@
-// How an answer is handed to C: a number is returned, and three places of a lent slice take the rest. For the calls of `stall`.
+// How an answer is handed to C: a number is returned, and three places of a lent slice, four for a joining, take the rest.
+// For the calls of `stall`.
 ghost use mathlib.Core.List.{[], _∷_};
 ghost use mathlib.Core.Path.{_≡_};
 ghost use Rattle.refusal.specs.Table.{side, line, verdict};
 ghost use Rattle.storage.specs.Reading.{told};
-ghost use Rattle.telling.specs.Answer.{sideNumber, refusalPlaces, handed, Told, CountTold, ReadingTold};
+ghost use Rattle.joint.specs.Joining.{toldJoining};
+ghost use Rattle.telling.specs.Answer.{sideNumber, refusalPlaces, handed, Told, CountTold, ReadingTold, JoiningTold};
+use joint::Joining;
 use refusal::Outcome;
 use refusal::Refusal;
 use storage::Reading;
@@ -16,6 +19,16 @@ fn put(answer: &mut [usize], first: usize, second: usize, third: usize)
         answer[0] = first;
         answer[1] = second;
         answer[2] = third;
+    }
+}
+
+// Four numbers into the first four places of the answer slice, if it has them.
+fn put_four(answer: &mut [usize], first: usize, second: usize, third: usize, fourth: usize)
+    ensures { λ _. ⌜ now (answer .exit) ≡ handed (now (answer .entry)) (first ∷ second ∷ third ∷ fourth ∷ []) ⌝ }
+{
+    if 4 <= answer.len() {
+        put(answer, first, second, third);
+        answer[3] = fourth;
     }
 }
 
@@ -36,6 +49,16 @@ fn tell_refusal(refusal: Refusal, answer: &mut [usize]) -> u32
     let listed = refusal::listed(refusal);
     put(answer, listed.first, listed.second, side_number(refusal));
     listed.number
+}
+
+// A joining's refusal is told as above, and the number of the part that it is of goes to the fourth place.
+fn tell_part(part: usize, refusal: Refusal, answer: &mut [usize]) -> u32
+    ensures { λ r. ⌜ Told (line refusal .number) (line refusal .first ∷ line refusal .second ∷ sideNumber (side refusal) ∷ part ∷ [])
+        (now (answer .entry)) r (now (answer .exit)) ⌝ }
+{
+    let line = refusal::listed(refusal);
+    put_four(answer, line.first, line.second, side_number(refusal), part);
+    line.number
 }
 
 // A count: the bound count of a solving, or the number of bytes of a writing. The number of the refusal is returned, or 0.
@@ -59,6 +82,21 @@ pub fn tell_reading(reading: Reading, answer: &mut [usize]) -> u32
         Reading::Refused(refusal) => tell_refusal(refusal, answer),
         Reading::Chain { order, entries } => {
             put(answer, order, entries, 0);
+            0
+        }
+    }
+}
+
+// A joining: the number of entries of the joint chain. The number of the refusal is returned, or 0.
+pub fn tell_joining(joining: Joining, answer: &mut [usize]) -> u32
+    ensures { λ r. ⌜ JoiningTold (toldJoining joining) (now (answer .entry)) r (now (answer .exit)) ⌝ }
+{
+    match joining {
+        Joining::Joint(refusal) => tell_part(0, refusal, answer),
+        Joining::First(refusal) => tell_part(1, refusal, answer),
+        Joining::Second(refusal) => tell_part(2, refusal, answer),
+        Joining::Done(entries) => {
+            put_four(answer, entries, 0, 0, 0);
             0
         }
     }

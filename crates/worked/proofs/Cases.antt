@@ -41,6 +41,7 @@ cases-hold = record {
   case-6-cleaned = record { accepted = refl; exact-weights = refl; weights-are = refl; shares-are = refl };
   case-7 = record { accepted = refl; exact-weights = refl; weights-are = refl; shares-are = refl };
   ring = record { accepted = refl; exact-weights = refl; weights-are = refl; shares-are = refl };
+  case-2-twice = record { accepted = refl; exact-weights = refl; weights-are = refl; shares-are = refl };
   refusal-6 = refl;
   traps = refl;
   case-8 = (refl, refl, refl, refl);

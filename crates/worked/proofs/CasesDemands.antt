@@ -34,15 +34,15 @@ use Rattle.worked.proofs.Cases.{cases-hold}
 
 -- ---- the numbers of the table, state by state
 
-exact-0 : setWeight 2 (rateIn chain2) (setOf chain2) 0 ≡ 1
+pub exact-0 : setWeight 2 (rateIn chain2) (setOf chain2) 0 ≡ 1
 unfolding table
 exact-0 = ap (λ (xs : List ℕ). getD xs 0 0) (cases-hold .case-2 .exact-weights)
 
-exact-1 : setWeight 2 (rateIn chain2) (setOf chain2) 1 ≡ 3
+pub exact-1 : setWeight 2 (rateIn chain2) (setOf chain2) 1 ≡ 3
 unfolding table
 exact-1 = ap (λ (xs : List ℕ). getD xs 1 0) (cases-hold .case-2 .exact-weights)
 
-exact-sum : sum 2 (setWeight 2 (rateIn chain2) (setOf chain2)) ≡ 4
+pub exact-sum : sum 2 (setWeight 2 (rateIn chain2) (setOf chain2)) ≡ 4
 unfolding sum
 exact-sum = omega (arith, exact-0, exact-1)
 
@@ -73,7 +73,7 @@ unfolding answered oneClosed firstLowest secondLowest isLowest settles all check
 has-answer-2 = accepted-answer chain2 refl
 
 -- its closed set has both states, and the last is 1
-only-2 : OnlyClosed 2 (rateIn chain2) (setOf chain2)
+pub only-2 : OnlyClosed 2 (rateIn chain2) (setOf chain2)
 only-2 = answer-set chain2 (has-answer-2 .0 .sound) (has-answer-2 .1)
 
 size-2 : size 2 (setOf chain2) ≡ 2

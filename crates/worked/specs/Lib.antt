@@ -1,3 +1,4 @@
--- The table of the worked cases, and two cases with groups.
+-- The table of the worked cases, two cases with groups, and joint chains solved.
 pub mod Table
 pub mod Groups
+pub mod SideBySide

@@ -1,6 +1,6 @@
 -- Document 01, "Chains worked on paper (those marked * go in the proved table)": the single table of the starred cases, 1 to 9, with
--- cases 6 and 7 and the example of refusal 6 as R-3 has them; two rows more for R-3, with states outside the set and with two sets; and
--- what its rows say, over the definitions that the contracts of the calls cite. `cases-hold` in proofs/Cases.antt proves it.
+-- cases 6 and 7 and the example of refusal 6 as R-3 has them; two rows more for R-3, with states outside the set and with two sets, and one
+-- for R-6, case 2 beside itself; and what its rows say, over the definitions that the contracts of the calls cite. `cases-hold` in proofs/Cases.antt proves it.
 use mathlib.Core.List.{List, [], _∷_}
 use mathlib.Core.Path.{_≡_}
 use Prim.Native.Nat.{ℕ, _+_, _*_}
@@ -116,6 +116,10 @@ chainRing = rows 5 (0 ∷ 2 ∷ 3 ∷ 4 ∷ 6 ∷ 7 ∷ []) (1 ∷ 3 ∷ 2 ∷ 4
 abbrev pub chainTraps : Rows
 chainTraps = rows 5 (0 ∷ 2 ∷ 3 ∷ 4 ∷ 4 ∷ 5 ∷ []) (1 ∷ 3 ∷ 2 ∷ 1 ∷ 3 ∷ []) (1 ∷ 1 ∷ 1 ∷ 1 ∷ 1 ∷ [])
 
+-- case 2 beside itself (document 02, R-6): its state 2i + j has the first part in i and the second in j
+abbrev pub chain22 : Rows
+chain22 = rows 4 (0 ∷ 2 ∷ 4 ∷ 6 ∷ 8 ∷ []) (1 ∷ 2 ∷ 0 ∷ 3 ∷ 0 ∷ 3 ∷ 1 ∷ 2 ∷ []) (3 ∷ 3 ∷ 1 ∷ 3 ∷ 1 ∷ 3 ∷ 1 ∷ 1 ∷ [])
+
 -- "02 02 03 00 00 00 01 01 00 00 00", whose printed lines case 2 refers to
 abbrev pub printed : List ℕ
 printed = 2 ∷ 2 ∷ 3 ∷ 0 ∷ 0 ∷ 0 ∷ 1 ∷ 1 ∷ 0 ∷ 0 ∷ 0 ∷ []
@@ -153,6 +157,10 @@ pub record Cases : Type 0 where
   pub ring : Solves chainRing 28 (0 ∷ 32 ∷ 16 ∷ 0 ∷ 8 ∷ [])
       (zeroNumber ∷ scaled 2147483648 (minus 29) ∷ scaled 2147483648 (minus 30) ∷ zeroNumber ∷ scaled 2147483648 (minus 31) ∷ [])
       (zeroNumber ∷ scaled 2454267026 (minus 32) ∷ scaled 2454267026 (minus 33) ∷ zeroNumber ∷ scaled 2454267026 (minus 34) ∷ [])
+  -- exact shares 1/16, 3/16, 3/16, 9/16, the products of 1/4 and 3/4
+  pub case-2-twice : Solves chain22 64 (8 ∷ 24 ∷ 24 ∷ 72 ∷ [])
+      (scaled 3817748707 (minus 35) ∷ scaled 2863311530 (minus 33) ∷ scaled 2863311531 (minus 33) ∷ scaled 2147483648 (minus 31) ∷ [])
+      (scaled 4294967295 (minus 36) ∷ scaled 3221225471 (minus 34) ∷ scaled 3221225472 (minus 34) ∷ scaled 2415919104 (minus 32) ∷ [])
   -- "its example becomes n = 2 without entries, (0, 1)"
   pub refusal-6 : Refuses chain0 (numbered 6 0 1)
   pub traps : Refuses chainTraps (numbered 6 1 3)

@@ -34,6 +34,9 @@ returns-9 c = c .table-line9 .ensures ∙ rw (c .before .before .reason5 .given 
 returns-10 : tie.Need-returns-10
 returns-10 c = c .table-line10 .ensures ∙ rw (c .before .before .reason6 .given .1)
 
+returns-11 : tie.Need-returns-11
+returns-11 c = c .table-line11 .ensures ∙ rw (c .before .enum-told5 .given .1)
+
 pub chain-line-spec : {M : Type 1} → statement M
 chain-line-spec =
     tie.close
@@ -41,4 +44,5 @@ chain-line-spec =
     (λ c. search needs) (λ c κs. search needs) (λ c. search needs) (λ c κs. search needs) (λ c. search needs) (λ c κs. search needs) (λ c. search needs)
     (λ c κs. search needs) (λ c. search needs) (λ c κs. search needs) (λ c. search needs) (λ c κs. search needs) (λ c. search needs)
     (λ c κs. search needs) (λ c. search needs) (λ c κs. search needs) (λ c. search needs) (λ c κs. search needs) (λ c. search needs)
-    (λ c κs. search needs) returns returns-2 returns-3 returns-4 returns-5 returns-6 returns-7 returns-8 returns-9 returns-10)
+    (λ c κs. search needs) (λ c. search needs) (λ c κs. search needs) returns returns-2 returns-3 returns-4 returns-5 returns-6 returns-7 returns-8 returns-9 returns-10
+    returns-11)

@@ -1,7 +1,7 @@
 -- `put` writes the three places where there is room, and nothing otherwise. Assumes nothing.
 use native.Mathlib.Omega.{arith}
 use lib.ListN.{length-set}
-use Rattle.telling.proofs.Answers.{three-put, none-put}
+use Rattle.telling.proofs.Answers.{room-put, none-put}
 use borrow.Author.Needs.{needs}
 use Rattle.telling.proofs.put.Statement.{statement}
 use Rattle.telling.proofs.put.Tie as tie
@@ -10,7 +10,7 @@ slice-write-answer-2 : tie.Need-slice-write-answer-2
 slice-write-answer-2 c = omega (arith, c .if1 .taken, length-set (c .before .args .answer .now) 0 (c .before .args .first))
 
 returns : tie.Need-returns
-returns c = three-put _ _ _ _ (c .if1 .taken)
+returns c = room-put _ _ (c .if1 .taken)
 
 returns-2 : tie.Need-returns-2
 returns-2 c = none-put _ _ (c .if1 .left)

@@ -1,0 +1,2 @@
+-- The chain in rows of a rate function.
+pub mod FromRates

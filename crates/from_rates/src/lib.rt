@@ -1,0 +1,1 @@
+// The chain in rows of a rate function: definitions and theorems, no code.
