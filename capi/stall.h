@@ -12,31 +12,16 @@
  *
  * Thread-safety: each call is a pure function of what it is lent. It keeps nothing between calls, allocates no memory, does no
  * input or output, and of the C library it uses memcpy and memset alone, so calls on different memory may run at once.
- * `stall_solve` uses less than 4 kilobytes of the stack, `stall_solve_groups` less than 5. Every call ends.
+ * Every call ends, and uses little of the stack: less than STALL_SOLVE_STACK bytes and so on, below.
  *
- * The returned number is 0 (accepted), or the number of the first refusal that applies:
- *    1  the order is 0 or above 64
- *    2  columns and rates differ in length
- *    3  a rule of the row starts is broken
- *    4  a rule of the columns is broken: the row, the entry's place in the columns
- *    5  a lent buffer is shorter than needed
- *    6  the chain has two or more closed sets: the two lowest of the sets' lowest states
- *    8  the stored bytes end early
- *    9  a map's bit stands at its own row, or at n or above: the row, the lowest such bit
- *   10  stored bytes are left over
- *   11  a state is in no row of the group table: the lowest such state
- *   12  a state is in two rows of the group table, or more: the lowest such state
- *   13  a row of the group table is cut short, has a first state above its last, a state of n or more, or a group above 15: the
- *       lowest such row
- *   14  a rate is 0: the row and the column (not the place) of the first such entry in row order. In a chain it is tried after 4 has
- *       been tried on every entry. From stall_read the bytes are at fault, from every other call the chain. The program `clean`
- *       rewrites stored chains without such entries
- *   15  the joint chain of two parts would have more than 64 states
+ * The returned number is 0 (accepted), or the number of the first refusal that applies. docs/FORMAT.md in the repository has, for each
+ * number, what it means and its two places ("The refusals"), and for each call which it tries, in which order ("The order"); a call here
+ * tries what the call of the same name without "stall_" does. From stall_read the bytes are at fault, from every other call the chain.
  * After a refusal all lent memory is unchanged, the answer slice apart.
  *
  * The answer slice. Where it has three places or more, four or more for stall_join, the first three or four are written, always:
  *    after 0          what the call below says
- *    after a refusal  answer[0], answer[1]: the refusal's two places, 0 where none is named above;
+ *    after a refusal  answer[0], answer[1]: the refusal's two places, 0 where FORMAT.md names none;
  *                     answer[2]: the side at fault, STALL_CHAIN or STALL_BYTES;
  *                     answer[3], of stall_join alone: whose refusal it is, STALL_JOINT, STALL_FIRST or STALL_SECOND
  * Its further places keep what they held. A slice with fewer is not written; the returned number is the same.
@@ -64,6 +49,14 @@ extern "C" {
 #define STALL_FIRST 1
 #define STALL_SECOND 2
 
+/* Each call uses less than so many bytes of the stack, its arguments there counted (measured, not proved: the C test holds it). What
+ * the dynamic linker takes when a program first calls memcpy or memset is not counted. */
+#define STALL_SOLVE_STACK 4096
+#define STALL_SOLVE_GROUPS_STACK 5120
+#define STALL_READ_STACK 1024
+#define STALL_WRITE_STACK 1024
+#define STALL_JOIN_STACK 1024
+
 /* A chain of order n in rows (compressed sparse rows, places from 0, no diagonal).
  *   starts   n + 1 numbers: the first is 0, none is below the one before, the last is columns_length
  *   columns  the entries of row i stand at places starts[i] up to, not including, starts[i + 1]; within a row they rise
@@ -80,7 +73,6 @@ extern "C" {
 /* Solves a chain: its closed set as a chain of its own, in state order.
  *   needs     work_m, work_e: n * n places each; the four result slices: n places each, whatever r is; places beyond keep what
  *             they held
- *   tries     1, 2, 3, 4, 14, 5, 6 in that order; the side at fault is always the chain
  *   after 0   weight_m[i], weight_e[i] are the weight of state i (that of the closed set's last state is 1), share_m[i],
  *             share_e[i] its share; all n * n needed work places are 0; answer[0] is the bound count
  *             K(r) = (2 r^3 + 6 r^2 - 8 r) / 3, answer[1] and answer[2] are 0. With F = 2^32 / (2^32 - 1), each weight lies within
@@ -103,8 +95,6 @@ uint32_t stall_solve(size_t n,
  *             each state is in one row; the rows stand in any order. Rows count from 0, and a last row of one or two numbers
  *             is a row cut short
  *   needs     what stall_solve needs; group_m, group_e: STALL_GROUPS places each; places beyond keep what they held
- *   tries     1, 2, 3, 4, 14, 13, 12, 11, 5, 6 in that order; 13, 12 and 11 each look through the whole table before the next; the
- *             side at fault is always the chain
  *   after 0   all that stall_solve says; and group_m[g], group_e[g] are the share of group g: the sum, from Zero, of the shares of
  *             its states, the lowest state first. A group without states in the closed set is Zero. Each lies within
  *             2 K(r) + 2 n factors F of the exact one
@@ -128,8 +118,6 @@ uint32_t stall_solve_groups(size_t n,
  * the rates whose bit stands, four bytes each, low byte first.
  *   needs     starts: n + 1 places; columns and rates: one place for each entry (STALL_MAX_ORDER + 1 and STALL_MAX_ENTRIES
  *             always do); places beyond keep what they held
- *   tries     the order byte (8 if absent, then 1); row by row the map cut short 8, a map's bit 9, then for each rate the rate cut
- *             short 8, a zero rate 14; after the last row 10, then 5; the side at fault is always the bytes
  *   after 0   the chain stands in the three slices; answer[0] is n, answer[1] the number of entries, answer[2] is 0. To solve or
  *             to write it, pass n + 1 starts and answer[1] columns and rates
  *   after a refusal  the three slices are unchanged */
@@ -141,7 +129,6 @@ uint32_t stall_read(const uint8_t *bytes, size_t bytes_length,
 
 /* Stores a chain. A chain without an answer (refusal 6 of solving) is stored too.
  *   needs     out: 1 + n * ((n + 7) / 8) + 4 * (entries) bytes (STALL_MAX_BYTES always do); bytes beyond keep what they held
- *   tries     1, 2, 3, 4, 14, 5 in that order; the side at fault is always the chain
  *   after 0   the file stands in the first answer[0] bytes of out; answer[1] and answer[2] are 0
  *   after a refusal  out is unchanged */
 uint32_t stall_write(size_t n,
@@ -156,9 +143,8 @@ uint32_t stall_write(size_t n,
  * same pointers.
  *   needs     starts: n1 * n2 + 1 places; columns and rates: n2 * (entries of the first) + n1 * (entries of the second) places
  *             (STALL_MAX_ORDER + 1 and STALL_MAX_ENTRIES always do); places beyond keep what they held
- *   tries     the first part by 1, 2, 3, 4, 14 in that order, then the second by the same, then 15, then 5; the side at fault is
- *             always the chain. Places of a part's refusal are those in that part; 15 and 5 are the joint chain's, STALL_JOINT. A
- *             part without an answer (refusal 6 of solving) is joined too
+ *   refusal   places of a part's refusal are those in that part; 15 and 5 are the joint chain's, STALL_JOINT. A part without an answer
+ *             (refusal 6 of solving) is joined too
  *   after 0   the joint chain stands in the three slices; answer[0] is the number of its entries, answer[1], answer[2] and answer[3]
  *             are 0. To solve or to write it, pass n1 * n2 + 1 starts and answer[0] columns and rates. Where both parts have an
  *             answer it has one, and its exact shares are the products of theirs

@@ -1,4 +1,5 @@
 /* Tests of the five exported calls from C. Exits 0 if all hold, and says which do not. */
+#define _XOPEN_SOURCE 700 /* for ucontext.h, in test_stack.h */
 #include "test_memory.h"
 
 /* Case 2 of docs/FORMAT.md: 0 to 1 rate 3, 1 to 0 rate 1. */
@@ -13,6 +14,7 @@ static const uint32_t columns7[] = {1, 0, 0}, rates7[] = {1, 1, 1};
 
 #include "test_zero_rates.h"
 #include "test_join.h"
+#include "test_stack.h"
 
 static void read_solve_write(void)
 {
@@ -343,6 +345,7 @@ int main(void)
     short_answers();
     largest();
     rarest();
+    stack_used();
     printf("C: %d checks, %d failed\n", tried, failed);
     return failed != 0;
 }

@@ -1,19 +1,19 @@
-"""What the tools share: files read and written with a message where that fails, programs proved, built and run, and exit statuses."""
+"""What the tools share: files read and written with a message where that fails, programs run, exit statuses, and signals."""
 import argparse
 import os
+import signal
 import stat
 import subprocess
 import sys
 import tempfile
-from pathlib import Path
 
-ROOT = Path(__file__).resolve().parent.parent
 STATUSES = """exit status:
   0  the answer was printed, or the file written
   1  the chain was refused
-  2  wrong usage, a file that cannot be read or written, or a text that describes no chain
+  2  wrong usage, a file that cannot be read or written, a text that describes no chain, or one where a stored chain is asked for
   3  a program could not be built or run, or its result was lost on the way out"""
 REFUSED, WRONG_INPUT, LOST = 1, 2, 3
+SIGNALS = signal.SIGINT, signal.SIGTERM, signal.SIGHUP  # each ends a tool, and what it started
 
 
 class Stop(Exception):
@@ -22,6 +22,14 @@ class Stop(Exception):
     def __init__(self, message, status=WRONG_INPUT):
         super().__init__(message)
         self.status = status
+
+
+class Ended(BaseException):
+    """A signal ends the tool."""
+
+    def __init__(self, number):
+        super().__init__(number)
+        self.status = 128 + number
 
 
 class Options(argparse.ArgumentParser):
@@ -75,9 +83,10 @@ def replace(path, data):
         dress(part.name, path)
         os.replace(part.name, path)
     except OSError as error:
+        raise Stop(f"{path}: {error.strerror}") from error
+    finally:
         if part is not None and os.path.exists(part.name):
             os.unlink(part.name)
-        raise Stop(f"{path}: {error.strerror}") from error
 
 
 def dress(part, path):
@@ -107,25 +116,6 @@ def store(path, data, words):
         put(f"{path}: {words}\n")
 
 
-def build(crate, called):
-    """Has a program proved and built, and gives its path. It tells of each crate as it is proved, but not of those that stand."""
-    program = ROOT / "target" / "bin" / crate
-    if not program.exists():
-        tell(f"proving and building {called}; this takes some minutes the first time")
-    try:
-        prover = subprocess.Popen(["rt", "check", crate], cwd=ROOT, stdout=subprocess.PIPE, stderr=subprocess.STDOUT, text=True)
-    except OSError as error:
-        raise Stop(f"rt: {error.strerror}; the Rattle kit is needed to prove and build {called}", LOST) from error
-    lines = []
-    for line in prover.stdout:
-        lines.append(line)
-        if line.startswith("rt: ") and "unchanged since" not in line and not line.startswith("rt: ok"):
-            tell(line.strip().removeprefix("rt: "))
-    if prover.wait():
-        raise Stop("".join([f"{called} was not built\n", *lines[-20:]]).rstrip(), LOST)
-    return str(program)
-
-
 def output(program, data, builder):
     """What a program writes on these bytes; any word on standard error or a status other than 0 is a failure."""
     try:
@@ -138,10 +128,17 @@ def output(program, data, builder):
     return done.stdout
 
 
+def end(number, _frame):
+    raise Ended(number)
+
+
 def run(call):
     """Runs a tool and gives its exit status."""
     if sys.stderr:
         sys.stderr.reconfigure(encoding="utf-8", errors="backslashreplace")
+    for number in SIGNALS:
+        if signal.getsignal(number) != signal.SIG_IGN:  # as nohup leaves one
+            signal.signal(number, end)
     try:
         call()
         return 0
@@ -149,5 +146,5 @@ def run(call):
         if str(stop):
             tell(stop)
         return stop.status
-    except KeyboardInterrupt:
-        return 130
+    except Ended as ended:
+        return ended.status

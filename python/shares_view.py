@@ -4,9 +4,10 @@ import os
 import re
 from fractions import Fraction
 
-from chain_text import is_text, looks_like_text, parse
-from command import LOST, REFUSED, Stop, content, output, tell
-from stored_chain import LONGEST_FILE, cleaned, write
+from chain_text import is_text, parse, stored_bytes
+from command import LOST, REFUSED, Stop, output, tell
+from doubts import warn
+from stored_chain import cleaned, write
 
 REASONS = {
     1: "the number of states is 0 or above 64",
@@ -17,7 +18,10 @@ REASONS = {
     14: "row {0}, column {1}: the entry from {2} to {3} has rate 0, as old files store an unused move; tools/chain clean OLD NEW leaves "
         "such entries out",
 }
+# Numbers as the program writes them: no zeros in front, of 32 bits; an exponent may be below 0.
+WHOLE, EXPONENT = "(?:0|[1-9][0-9]{0,9})", "(?:0|-?[1-9][0-9]{0,4})"
 WORD = 2**32  # a factor is 2^32 / (2^32 - 1)
+ONE = WORD // 2, -31
 BAR = 40
 LEFT = "left for good"  # in the place of a bar, for a state outside the closed set
 
@@ -26,11 +30,14 @@ LEFT = "left for good"  # in the place of a bar, for a state outside the closed 
 
 def load(path, names_from=None):
     """The stored bytes of a chain and the names of its states. Without a text that packs to these very bytes, once cleaned, there are no
-    names."""
-    if is_text(path) and names_from is None:
+    names. Of a text it tells which names may be misspelt."""
+    if is_text(path):
+        if names_from is not None:
+            raise Stop(f"{path}: this is a text, with names of its own; --names goes with a stored chain")
         names, rows = parse(path)
+        warn(path, names, rows)
         return write(rows), names
-    data = content(path, LONGEST_FILE + 1)
+    data = stored_bytes(path)
     if names_from is not None:
         return data, names_for(data, path, names_from)
     beside = os.path.splitext(path)[0] + ".txt"
@@ -56,18 +63,47 @@ def called(names, i):
 def reason(number, places, names=None):
     states = [f"state {i}" + (f" ({names[i]})" if names else "") for i in places] if number in (6, 14) else []
     places = states if number == 6 else [*places, *states]
-    return REASONS.get(number, "a reason that this tool does not know").format(*places)
+    return REASONS[number].format(*places)
 
 
 # ---- the program
 
 def answer(program, data):
-    """What the printing program writes on these bytes."""
+    """What the printing program writes on these bytes, if it is what docs/FORMAT.md says of them as far as that is soon seen."""
     text = output(program, data, "tools/solve").decode("ascii", "replace")
     order = data[0] if data else 0
-    if not re.fullmatch(rf"refused( \d+){{3}}\n|states {order} bound \d+\n(\d+( \d+ -?\d+){{2}}\n){{{order}}}", text):
+    lines = rf"states {order} bound {WHOLE}\n({WHOLE}( {WHOLE} {EXPONENT}){{2}}\n){{{order}}}"
+    if not re.fullmatch(rf"refused( {WHOLE}){{3}}\n|{lines}", text):
         raise Stop(f"{program} wrote something else than its documented lines: {text[:80]!r}", LOST)
+    wrong = not text.startswith("refused") and next(untrue(text), None)
+    if wrong:
+        raise Stop(f"{program} wrote what cannot be: {wrong}", LOST)
     return text
+
+
+def untrue(text):
+    """What is plainly wrong in the printed form: each of these would show a share of another state, with other digits, or none."""
+    (*_, bound), *lines = [line.split() for line in text.splitlines()]
+    lines = [list(map(int, line)) for line in lines]
+    weights, shares = [(wm, we) for _, wm, we, _, _ in lines], [(sm, se) for _, _, _, sm, se in lines]
+    inside = [i for i, share in enumerate(shares) if share != (0, 0)]
+    r = len(inside)
+    if [line[0] for line in lines] != list(range(len(lines))):
+        yield f"the states are not numbered from 0 to {len(lines) - 1}"
+    if not all(pair == (0, 0) or WORD // 2 <= pair[0] < WORD and -16384 <= pair[1] <= 16383 for pair in weights + shares):
+        yield "a pair that is no scaled number"
+    if [i for i, weight in enumerate(weights) if weight != (0, 0)] != inside:
+        yield "a state has a weight and no share, or a share and no weight"
+    if int(bound) != (2 * r**3 + 6 * r**2 - 8 * r) // 3:
+        yield f"{bound} is not the bound count of {r} states"
+    if inside and weights[inside[-1]] != ONE:
+        yield "the weight of the closed set's last state is not 1"
+    if inside and not 1 / widest(2 * int(bound) + r) <= sum(value(*share) for share in shares) <= widest(2 * int(bound) + r):
+        yield "the shares do not add up to 1"
+
+
+def value(m, e):
+    return Fraction(m) * Fraction(2) ** e
 
 
 def refusal(text, data, names):
@@ -75,8 +111,10 @@ def refusal(text, data, names):
     if not text.startswith("refused"):
         return None
     number, *places = map(int, text.split()[1:])
-    hint = "; it looks like a text: name it .txt, or pack it" if number != 6 and data and looks_like_text(data) else ""
-    return Stop(f"{text.strip()}: {reason(number, places, names)}{hint}", REFUSED)
+    order, states = data[0] if data else 0, {6: 2, 9: 1, 14: 2}.get(number, 0)
+    if number not in REASONS or any(place >= order for place in places[:states]) or (number not in (6, 9, 14) and any(places)):
+        raise Stop(f"the program wrote a refusal that cannot be: {text.strip()}", LOST)
+    return Stop(f"{text.strip()}: {reason(number, places, names)}", REFUSED)
 
 
 # ---- decimal digits
@@ -108,12 +146,14 @@ def decimal(whole, power):
     return (text[0] + ("." + text[1:] if len(text) > 1 else "")) + (f"e{d}" if d else "")
 
 
-def guaranteed(x, count):
-    """The most digits (up to 12) to which every number within count factors of x is rounded alike, as (whole, power of ten).
+def widest(count):
+    """At least F^count: by Bernoulli's inequality (1 / F)^count is at least 1 - count / 2^32."""
+    return Fraction(WORD, WORD - count)
 
-    By Bernoulli's inequality (1 / F)^count is at least 1 - count / 2^32, so F^count is at most 2^32 / (2^32 - count).
-    """
-    wide = Fraction(WORD, WORD - count)
+
+def guaranteed(x, count):
+    """The most digits (up to 12) to which every number within count factors of x is rounded alike, as (whole, power of ten)."""
+    wide = widest(count)
     for digits in range(12, 0, -1):
         low, high = rounded(x / wide, digits), rounded(x * wide, digits)
         if low == high:
@@ -122,8 +162,8 @@ def guaranteed(x, count):
 
 
 def relative(count):
-    """A number of two digits that F^count - 1 lies below, by the same inequality."""
-    return decimal(*rounded(Fraction(count, WORD - count), 2, math.ceil))
+    """A number of two digits that F^count - 1 lies below."""
+    return decimal(*rounded(widest(count) - 1, 2, math.ceil))
 
 
 def log10(x):
@@ -146,8 +186,8 @@ def display(path, text, names):
 
     A state has the share Zero if and only if it is outside the closed set; K and the bound count the states inside.
     """
-    (_, _, _, bound), *lines = [line.split() for line in text.splitlines()]
-    shares = [Fraction(int(m)) * Fraction(2) ** int(e) for _, _, _, m, e in lines]
+    (*_, bound), *lines = [line.split() for line in text.splitlines()]
+    shares = [value(int(m), int(e)) for *_, m, e in lines]
     inside = sum(share > 0 for share in shares)
     if not inside:
         raise Stop("the printing program gave no state a share", LOST)

@@ -3,7 +3,7 @@ import os
 import sys
 from pathlib import Path
 
-from tool_checks import CHAIN, EXAMPLES, HOW, NAMED, OLD, ROOT, SOLVE, STATION, check, failing_rt, program, ran, section
+from tool_checks import CHAIN, EXAMPLES, HOW, NAMED, OLD, PRINTER, ROOT, SOLVE, STATION, check, failing_rt, program, ran, section
 
 JOINER = "--program", str(ROOT / "target" / "bin" / "joint_run")
 # case 2 of document 01 beside itself, and beside case 3, worked out by hand
@@ -44,7 +44,7 @@ def examples(folder):
         made = Path(folder, f"two-stations.{ending}")
         check(f"two-stations.{ending}", ran(CHAIN, "join", STATION, STATION, str(made), *JOINER)[0] == 0
               and made.read_bytes() == Path(EXAMPLES, made.name).read_bytes())
-    status, shown, _ = ran(CHAIN, "show", f"{EXAMPLES}/two-stations.chain")
+    status, shown, _ = ran(CHAIN, "show", f"{EXAMPLES}/two-stations.chain", *PRINTER)
     readme, quoted = Path(EXAMPLES, "README.md").read_text(encoding="utf-8"), section("Two stations side by side")
     bars = [line[4:] for line in quoted if "##" in line]
     check("the README's lines with bars", status == 0 and len(bars) == 3 and all(f"\n{bar}\n" in shown for bar in bars))
@@ -97,8 +97,7 @@ def no_joint_chain(folder):
     refused("8, then 14", f"{EXAMPLES}/damaged.chain", OLD, told="damaged.chain, the first part: refused 8 0 0: the bytes end early\n")
     refused("14 before 15", RARE, OLD, told=f"{OLD}, the second part: refused 14 5 0: {NAMED}")
     refused("15", RARE, two, told=f"{RARE} and {two}: refused 15 0 0: 64 × 2 = 128 joint states, and a chain has at most 64\n")
-    refused("a text under another name", two, moves, told=f"{moves}, the second part: refused 1 0 0: the number of states is 0 or above 64; it "
-            "looks like a text: name it .txt, or pack it\n")
+    stays("a text under another name", two, moves, out, *JOINER, status=2, told=f"{moves}: this is a text: give it a name that ends in .txt")
     out.unlink()
     check("not made", ran(CHAIN, "join", RARE, str(two), str(out), *JOINER)[0] == 1 and not out.exists())
     stays("no FIRST", f"{folder}/none", two, out, status=2, told="No such file")

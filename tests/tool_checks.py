@@ -5,14 +5,19 @@ from pathlib import Path
 ROOT = Path(__file__).resolve().parent.parent
 CHAIN, SOLVE, EXAMPLES = (str(ROOT / path) for path in ("tools/chain", "tools/solve", "examples"))
 STATION, OLD, CLEAN = (f"{EXAMPLES}/{name}.chain" for name in ("station", "no-way-back", "no-way-back-cleaned"))
+PRINTER = "--program", str(ROOT / "target" / "bin" / "shares")
 NAMED = "row 5, column 0: the entry from state 5 (stalled) to state 0 (idle) has rate 0, "
 HOW = "; tools/chain clean OLD NEW leaves such entries out\n"
 checked = []  # what was checked, and whether it holds
 
 
 def ran(*words, **options):
-    """The status, standard output and standard error of a command; anything like a traceback is wrong."""
-    done = subprocess.run(words, capture_output="stdout" not in options, check=False, **options)
+    """The status, standard output and standard error of a command; anything like a traceback is wrong, and so is no end."""
+    try:
+        done = subprocess.run(words, capture_output="stdout" not in options, check=False, **{"timeout": 900, **options})
+    except subprocess.TimeoutExpired as late:
+        check(f"{late}"[-90:], False)
+        return None, "", ""
     out, told = (done.stdout or b"").decode(), (done.stderr or b"").decode()
     check(" ".join(words)[-60:] + ": no traceback", "Traceback" not in told and "Exception" not in told)
     return done.returncode, out, told

@@ -1,7 +1,8 @@
 """The chains that document 01 works on paper, as stored bytes with the text that the printing program writes for them.
 
 Every expected line is taken from the paper; a weight of 1 is (2147483648, -31). Case 7 and the example of 6 are as request R-3 has
-them, case 6 as request R-5 has it.
+them, case 6 as request R-5 has it. The digits of the nine states, of the four whose bits tell the order of the operations and of the
+rates of four different bytes are the models'.
 """
 
 ONE, HALF = "2147483648 -31", "2147483648 -32"
@@ -41,6 +42,14 @@ PRINTED = (
     ("a zero rate, then bytes left over", "02 02 05000000 01 00000000 00", "refused 14 1 0\n"),
     ("two zero rates", "03 06 07000000 00000000 05 00000000 07000000 00", "refused 14 0 2\n"),
     ("the nine states of docs/FORMAT.md, before cleaning", f"09 0201 e8030000 00000000 {RING_OF_9}", "refused 14 0 8\n"),
+    ("the nine states of docs/FORMAT.md", f"09 0201 e8030000 00010000 {RING_OF_9}",
+     "states 9 bound 624\n" + "".join(f"{i} 3419559949 -32 3712158423 -35\n" for i in range(8)) + f"8 {ONE} 2331235489 -34\n"),
+    ("the order of the operations",
+     "04 0e 03000000 feffffff 02000000 0d 03000000 02000000 02000000 0b 09000000 05000000 05000000 07 02000000 03000000 01000000",
+     "states 4 bound 64\n0 3274912559 -60 2339223254 -61\n1 2147483649 -31 3067833781 -33\n2 3435973832 -32 2454267021 -33\n"
+     f"3 {ONE} 3067833780 -33\n"),
+    ("rates of four different bytes", "02 02 01020304 01 05060708",
+     f"states 2 bound 8\n0 2148537369 -30 2863779698 -32\n1 {ONE} 2862375196 -33\n"),
     ("rates 256", "02 02 00010000 01 00010000", EVEN),
     ("rates 65536", "02 02 00000100 01 00000100", EVEN),
     ("rates 16777216", "02 02 00000001 01 00000001", EVEN),
@@ -74,6 +83,9 @@ EXACT_WEIGHTS = (
     ("3", [[(1, 2)], [(2, 4)], [(0, 8)]], [32, 16, 8]),
     ("6, cleaned", [[], [(0, 5)]], [1, 0]),
     ("7", [[(1, 1)], [(0, 1)], [(0, 1)]], [1, 1, 0]),
+    ("the order of the operations",
+     [[(1, 3), (2, 4294967294), (3, 2)], [(0, 3), (2, 2), (3, 2)], [(0, 9), (1, 5), (3, 5)], [(0, 2), (1, 3), (2, 1)]],
+     [549, 193273528681, 154618822652, 193273528620]),
 )
 
 # request R-1: a chain, its bound count, a table, and the shares of the groups that are not Zero. In case 7 state 2, and so group 4, is

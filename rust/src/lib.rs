@@ -143,7 +143,7 @@ impl Lent {
     }
 }
 
-/// Solves a chain: its weights and shares, or the first refusal of 1, 2, 3, 4, 14 and 6, in this order.
+/// Solves a chain: its weights and shares, or the first refusal in the order of docs/FORMAT.md; never 5.
 pub fn solve(chain: &Chain) -> Result<Solution, Refusal> {
     let mut lent = Lent::new(chain.order);
     // SAFETY: each pointer and length are those of one live slice; the mutable ones are different vectors and one array.
@@ -175,7 +175,7 @@ pub fn solve(chain: &Chain) -> Result<Solution, Refusal> {
     lent.solution(number)
 }
 
-/// Solves a chain and sums its shares by group, or gives the first refusal of 1, 2, 3, 4, 14, 13, 12, 11 and 6, in this order.
+/// Solves a chain and sums its shares by group, or gives the first refusal in the order of docs/FORMAT.md; never 5.
 ///
 /// A row of the table is a first state, a last state, and the group, 0 to 15, of all states from the first to the last. Each state
 /// is in one row; the rows stand in any order.
@@ -191,8 +191,8 @@ pub fn solve(chain: &Chain) -> Result<Solution, Refusal> {
 /// ```
 pub fn solve_groups(chain: &Chain, table: &[[u32; 3]]) -> Result<GroupSolution, Refusal> {
     let (mut lent, mut groups) = (Lent::new(chain.order), Places::new(GROUPS));
-    let table = table.as_flattened();
-    // SAFETY: each pointer and length are those of one live slice; the mutable ones are different vectors and one array.
+    // SAFETY: each pointer and length are those of one live slice, the table's of the numbers of its rows, three a row, which lie one after
+    // another; the mutable ones are different vectors and one array.
     let number = unsafe {
         sys::stall_solve_groups(
             chain.order,
@@ -202,8 +202,8 @@ pub fn solve_groups(chain: &Chain, table: &[[u32; 3]]) -> Result<GroupSolution, 
             chain.columns.len(),
             chain.rates.as_ptr(),
             chain.rates.len(),
-            table.as_ptr(),
-            table.len(),
+            table.as_ptr().cast::<u32>(),
+            3 * table.len(),
             lent.work.m.as_mut_ptr(),
             lent.work.m.len(),
             lent.work.e.as_mut_ptr(),
@@ -230,7 +230,7 @@ pub fn solve_groups(chain: &Chain, table: &[[u32; 3]]) -> Result<GroupSolution, 
     })
 }
 
-/// Reads a stored chain, or gives the first refusal of its bytes: 8, 1, 9, 14 and 10 as they are met.
+/// Reads a stored chain, or gives the first refusal of its bytes in the order of docs/FORMAT.md; never 5.
 pub fn read(bytes: &[u8]) -> Result<Chain, Refusal> {
     let mut starts = vec![0u32; MAX_ORDER + 1];
     let (mut columns, mut rates) = (vec![0u32; MAX_ENTRIES], vec![0u32; MAX_ENTRIES]);
@@ -265,7 +265,7 @@ pub fn read(bytes: &[u8]) -> Result<Chain, Refusal> {
     })
 }
 
-/// Stores a chain, or gives the first refusal of 1, 2, 3, 4 and 14, in this order. A chain with several closed sets, which solving refuses by 6, is stored too.
+/// Stores a chain, or gives the first refusal in the order of docs/FORMAT.md; never 5. A chain with several closed sets, which solving refuses by 6, is stored too.
 pub fn write(chain: &Chain) -> Result<Vec<u8>, Refusal> {
     let mut out = vec![0u8; MAX_BYTES];
     let mut answer = [0usize; 3];
@@ -293,8 +293,8 @@ pub fn write(chain: &Chain) -> Result<Vec<u8>, Refusal> {
 }
 
 /// Joins the chains of two stations side by side: the joint chain's state i × b + j has the first in state i and the second in state j,
-/// b being the order of the second, and one of the two moves at a time, with its own rate. Or it gives the first refusal: of the first
-/// part by 1, 2, 3, 4 and 14, of the second by the same, of the joint chain by 15.
+/// b being the order of the second, and one of the two moves at a time, with its own rate. Or it gives the first refusal in
+/// the order of docs/FORMAT.md, of the first part, of the second or of the joint chain; never 5.
 ///
 /// Where both parts have an answer the joint chain has one, and its exact shares are the products of theirs. Parts without an answer are
 /// joined too.

@@ -56,10 +56,9 @@ fn states_outside_the_closed_set() {
     ];
     let ring = solve(&ring()).unwrap();
     let between = |numbers: &[Scaled]| {
-        let [a, b, c] = *pairs(numbers) else {
-            panic!("three numbers")
-        };
-        vec![a, zero, b, zero, c]
+        let three = pairs(numbers);
+        assert_eq!(three.len(), 3);
+        vec![three[0], zero, three[1], zero, three[2]]
     };
     assert_eq!(
         solved(5, &moves),

@@ -1,9 +1,10 @@
--- The examples of the table for refusals 8, 9 and 10, and 14 of a file with its neighbours, by evaluation of the definitions.
--- Assumes nothing.
+-- The examples of the table for refusals 8, 9 and 10, 14 of a file with its neighbours, and docs/FORMAT.md's nine states, by evaluation of
+-- the definitions. Assumes nothing.
 use mathlib.Core.List.{[], _∷_}
 use mathlib.Core.Path.{_≡_, refl}
 use Rattle.refusal.specs.Table.{accepts}
 use Rattle.layout.specs.Bytes.{bitAt, storedRate}
+use Rattle.layout.proofs.Cases.{nineBytes}
 use Rattle.checking.specs.Sound.{zerosTaken, zerosRefused}
 use Rattle.checking.specs.Verdict.{bytesRefused, rateChecked, rowChecked, fileChecked, roomToRead, readVerdict}
 
@@ -98,3 +99,21 @@ zero-then-bit = refl
 pub zero-then-more : fileChecked zerosRefused (2 ∷ 2 ∷ 0 ∷ 0 ∷ 0 ∷ 0 ∷ 0 ∷ 7 ∷ []) ≡ bytesRefused 14 0 1
 unfolding fileChecked rowChecked rateChecked bitAt storedRate
 zero-then-more = refl
+
+-- ---- a map of two bytes
+
+-- nine states with ten entries; with 0 in place of 256, "refused 14 0 8", or as many entries where rates of 0 are taken
+pub nine-states : (fileChecked zerosRefused (nineBytes 1) ≡ accepts 10) × (fileChecked zerosRefused (nineBytes 0) ≡ bytesRefused 14 0 8)
+    × (fileChecked zerosTaken (nineBytes 0) ≡ accepts 10)
+unfolding fileChecked rowChecked rateChecked bitAt storedRate
+nine-states = (refl, refl, refl)
+
+-- bits of the second byte: at n and above the lowest is named, and that of its own row
+pub second-byte : (rowChecked zerosRefused (0 ∷ 12 ∷ []) 9 0 0 ≡ bytesRefused 9 0 10) × (rowChecked zerosRefused (0 ∷ 1 ∷ []) 9 8 0 ≡ bytesRefused 9 8 8)
+unfolding rowChecked rateChecked bitAt storedRate
+second-byte = (refl, refl)
+
+-- one byte is no map
+pub half-a-map : rowChecked zerosRefused (0 ∷ []) 9 0 0 ≡ bytesRefused 8 0 0
+unfolding rowChecked rateChecked bitAt storedRate
+half-a-map = refl

@@ -4,8 +4,8 @@ use libc::STDERR_FILENO;
 use libc::STDOUT_FILENO;
 
 fn main() {
-    let mut input = [0u8; 16642];
-    let mut output = [0u8; 16641];
+    let mut input = input::buffer();
+    let mut output = cleaning::file_buffer();
     let got = input::read_input(&mut input);
     if got < 0 {
         io::write_all(STDERR_FILENO, b"clean: could not read standard input\n");

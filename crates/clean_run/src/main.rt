@@ -4,7 +4,7 @@ use libc::STDIN_FILENO;
 use libc::STDOUT_FILENO;
 
 fn write_cleaned(bytes: &[u8]) {
-    let mut output = [0u8; 16641];
+    let mut output = cleaning::file_buffer();
     let n = cleaning::clean(bytes, &mut output);
     io::write_all(STDOUT_FILENO, &output[..n]);
 }
@@ -22,6 +22,6 @@ fn all_files(buffer: &mut [u8]) {
 }
 
 fn main() {
-    let mut buffer = [0u8; 16642];
+    let mut buffer = [0u8; layout::ENOUGH_BYTES];
     all_files(&mut buffer);
 }

@@ -15,8 +15,8 @@ use Rattle.refusal.specs.declared.Refusal.{Refusal}
 use Rattle.chain.specs.Rows.{Rows, rows}
 use Rattle.chain.specs.Sound.{Sound, Accepted}
 use Rattle.chain.proofs.Reading.{sound-accepted, rules-sound}
-use Rattle.layout.specs.Buffers.{Buffers, chainIn}
-use Rattle.layout.specs.File.{fileOf, fileSize}
+use Rattle.layout.specs.Buffers.{Buffers, mostStarts, mostEntries, chainIn}
+use Rattle.layout.specs.File.{fileOf, fileSize, longestFile, enoughBytes}
 use Rattle.checking.specs.Sound.{zerosTaken}
 use Rattle.checking.specs.Verdict.{fileChecked}
 use Rattle.storage.specs.declared.Reading.{Reading}
@@ -29,13 +29,12 @@ use Rattle.storage.proofs.WriteRead.{file-forth}
 use Rattle.storage.proofs.ZeroRates.{never-14}
 use Rattle.decimal.specs.Put.{Puts}
 use Rattle.refused.specs.Refused.{refusedLine}
-use Rattle.report.specs.Report.{enoughBytes}
 use Rattle.report.proofs.Input.{prefix-decides}
 use Rattle.cleaned.specs.Cleaned.{cleaned}
 use Rattle.cleaned.specs.Inner.{Clean, Cleans}
 use Rattle.cleaned.proofs.CleanedLaws.{cleaned-fewer}
 use Rattle.cleaned.proofs.Slices.{cleaned-in}
-use Rattle.cleaning.specs.Cleaning.{longestFile, outputAfter, cleanOf, Rewrites}
+use Rattle.cleaning.specs.Cleaning.{outputAfter, cleanOf, Rewrites}
 use Rattle.cleaning.proofs.Files.{cleaned-accepted, cleaned-file, file-unchanged}
 
 -- ---- a chain that is written
@@ -105,7 +104,7 @@ module _ (bytes : List ℕ) (small : (i : ℕ) → getD bytes i 0 < 256) where
 
 -- a reading into slices that have room for every chain
 module _ {bytes : List ℕ} {old new : Buffers} {r : Reading} (d : Read zerosTaken bytes old r new)
-    (a : length (old .starts) ≡ 65) (b : length (old .columns) ≡ 4032) (c : length (old .rates) ≡ 4032) where
+    (a : length (old .starts) ≡ mostStarts) (b : length (old .columns) ≡ mostEntries) (c : length (old .rates) ≡ mostEntries) where
   pub unread-output : {f : Refusal} → r ≡ reading.Refused f → refusedLine (line f) ≡ cleanOf bytes
   unfolding cleanOf
   unread-output q = rw (file-refused d a b c q)

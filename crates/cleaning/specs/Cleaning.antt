@@ -13,12 +13,13 @@ use Rattle.refusal.specs.declared.Line.{Line}
 use Rattle.chain.specs.Rows.{Rows}
 use Rattle.chain.specs.Meaning.{rateIn}
 use Rattle.layout.specs.Bytes.{chainOf}
-use Rattle.layout.specs.File.{fileOf}
+use Rattle.layout.specs.File.{fileOf, longestFile, enoughBytes}
 use Rattle.checking.specs.Sound.{zerosTaken, zerosRefused}
 use Rattle.checking.specs.Verdict.{fileChecked}
 use Rattle.solver.specs.Solve.{weightsOf, sharesOf, countOf, solved}
+use Rattle.group_shares.specs.GroupShares.{groupSharesOf}
 use Rattle.refused.specs.Refused.{refusedLine}
-use Rattle.report.specs.Report.{reportOf, enoughBytes}
+use Rattle.report.specs.Report.{reportOf}
 use Rattle.cleaned.specs.Cleaned.{cleaned}
 use Rattle.cleaning.specs.WithZeros.{solvedWithZeros, reportOfWithZeros}
 
@@ -31,10 +32,6 @@ outputAfter bytes (refuses side line) = refusedLine line
 unfoldable pub cleanOf : List ℕ → List ℕ
 cleanOf bytes = outputAfter bytes (fileChecked zerosTaken bytes)
 
--- the longest file, longer than any line of a refusal
-abbrev pub longestFile : ℕ
-longestFile = 16641
-
 -- "the shares that an old one had by the rules until now are the clean one's, bit for bit": two chains of the same order and rates, the old
 -- one solved by the rules until then, the new one by today's, with room or without
 pub record SameAnswer (old new : Rows) : Type 0 where
@@ -44,6 +41,8 @@ pub record SameAnswer (old new : Rows) : Type 0 where
   pub count : countOf new ≡ countOf old
   pub weights : (i : ℕ) → i < old .order → weightsOf new i ≡ weightsOf old i
   pub shares : (i : ℕ) → i < old .order → sharesOf new i ≡ sharesOf old i
+  -- R-1's shares by group, for any table
+  pub groups : (table : List ℕ) (g : ℕ) → groupSharesOf new table g ≡ groupSharesOf old table g
 
 -- for bytes that the rules without 14 take
 pub record CleanedFile (bytes : List ℕ) : Type 0 where
@@ -58,8 +57,8 @@ pub record CleanedFile (bytes : List ℕ) : Type 0 where
   pub shorter : length (cleanOf bytes) ≤ length bytes
   pub again : cleanOf (cleanOf bytes) ≡ cleanOf bytes
 
--- A buffer with room for the longest file begins with the output for the bytes, and the answer is the number of its bytes. In a shorter one
--- nothing is changed and the answer is 0.
+-- A buffer with room for the longest file, which is longer than any line of a refusal, begins with the output for the bytes, and the answer is
+-- the number of its bytes. In a shorter one nothing is changed and the answer is 0.
 pub record Rewrites (bytes out after : List ℕ) (count : ℕ) : Type 0 where
   pub out-is : after ≡ cond (leb longestFile (length out)) (sets out 0 (cleanOf bytes)) out
   pub count-is : count ≡ cond (leb longestFile (length out)) (length (cleanOf bytes)) 0

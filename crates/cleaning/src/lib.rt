@@ -1,13 +1,14 @@
 // What the cleaning program writes for any bytes, put at the front of a lent buffer.
+ghost use mathlib.Core.Path.{_≡_};
 ghost use Prim.Native.Nat.{_≤_, _<_};
 ghost use lib.ListN.{length};
 ghost use Rattle.chain.specs.Rows.{inRows};
 ghost use Rattle.chain.specs.Sound.{Sound, Accepted};
-ghost use Rattle.layout.specs.Buffers.{inBuffers, chainIn};
-ghost use Rattle.layout.specs.File.{fileOf};
+ghost use Rattle.layout.specs.Buffers.{inBuffers, chainIn, mostEntries};
+ghost use Rattle.layout.specs.File.{fileOf, longestFile};
 ghost use Rattle.decimal.specs.Put.{Puts};
 ghost use Rattle.cleaned.specs.Cleaned.{cleaned};
-ghost use Rattle.cleaning.specs.Cleaning.{longestFile, Rewrites};
+ghost use Rattle.cleaning.specs.Cleaning.{Rewrites};
 use refusal::Outcome;
 use storage::Reading;
 
@@ -30,12 +31,12 @@ fn put_cleaned(
     columns: &[u32],
     rates: &[u32],
 ) -> usize
-    requires { ⌜ (longestFile ≤ length (now out)) × Sound (inRows order starts columns rates) × (length (now columns) ≤ 4032) ⌝ }
+    requires { ⌜ (longestFile ≤ length (now out)) × Sound (inRows order starts columns rates) × (length (now columns) ≤ mostEntries) ⌝ }
     ensures { λ r. ⌜ (Puts (now (out .entry)) 0 (fileOf (cleaned (inRows order (starts .entry) (columns .entry) (rates .entry)))) (now (out .exit)) r) × (r ≤ longestFile) ⌝ }
 {
-    let mut starts2 = [0u32; 65];
-    let mut columns2 = [0u32; 4032];
-    let mut rates2 = [0u32; 4032];
+    let mut starts2 = [0u32; layout::MOST_STARTS];
+    let mut columns2 = [0u32; layout::MOST_ENTRIES];
+    let mut rates2 = [0u32; layout::MOST_ENTRIES];
     let kept = cleaned::clean_chain(
         order,
         starts,
@@ -64,7 +65,7 @@ fn put_chain(
     rates: &[u32],
 ) -> usize
     requires { ⌜ (longestFile ≤ length (now out)) × Sound (chainIn (inBuffers starts columns rates) order entries) ×
-        (order < length (now starts)) × (entries ≤ length (now columns)) × (entries ≤ length (now rates)) × (entries ≤ 4032) ⌝ }
+        (order < length (now starts)) × (entries ≤ length (now columns)) × (entries ≤ length (now rates)) × (entries ≤ mostEntries) ⌝ }
     ensures { λ r. ⌜ (Puts (now (out .entry)) 0 (fileOf (cleaned (chainIn (inBuffers (starts .entry) (columns .entry) (rates .entry)) order entries))) (now (out .exit)) r) × (r ≤ longestFile) ⌝ }
 {
     put_cleaned(
@@ -76,17 +77,24 @@ fn put_chain(
     )
 }
 
+// Room for the longest file, which suffices for `clean`.
+pub fn file_buffer() -> [u8; layout::LONGEST_FILE]
+    ensures { λ r. ⌜ length r ≡ longestFile ⌝ }
+{
+    [0; layout::LONGEST_FILE]
+}
+
 // Puts the cleaned file of these bytes, or the line of their refusal, at the front of `out`: the answer is the number of its bytes. Where
-// `out` has fewer than 16641 bytes, nothing is changed and the answer is 0.
+// `out` has no room for the longest file, nothing is changed and the answer is 0.
 pub fn clean(bytes: &[u8], out: &mut [u8]) -> usize
     ensures { λ r. ⌜ Rewrites (now (bytes .entry)) (now (out .entry)) (now (out .exit)) r ⌝ }
 {
-    if out.len() < 16641 {
+    if out.len() < layout::LONGEST_FILE {
         return 0;
     }
-    let mut starts = [0u32; 65];
-    let mut columns = [0u32; 4032];
-    let mut rates = [0u32; 4032];
+    let mut starts = [0u32; layout::MOST_STARTS];
+    let mut columns = [0u32; layout::MOST_ENTRIES];
+    let mut rates = [0u32; layout::MOST_ENTRIES];
     match storage::read_with_zeros(bytes, &mut starts, &mut columns, &mut rates) {
         Reading::Chain { order, entries } => {
             put_chain(out, order, entries, &starts, &columns, &rates)

@@ -57,7 +57,7 @@ fn admit(
 }
 
 // Solves a chain as `solver::solve` does, and puts the share of each of the sixteen groups of the table into gm, ge. The table has three
-// numbers a row: first state, last state, group. The answer is the bound count, or the first refusal of 1, 2, 3, 4, 14, 13, 12, 11, 5, 6. The
+// numbers a row: first state, last state, group. The answer is the bound count, or the first refusal in the order of docs/FORMAT.md. The
 // contract, `GroupsSolved`, holds for any input.
 pub fn solve_groups(
     n: usize,

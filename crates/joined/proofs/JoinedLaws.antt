@@ -1,7 +1,7 @@
 -- The joint chain: the check takes it, it has the joint rates, and so all that is proved of two parts side by side. Assumes nothing.
 use mathlib.Core.Bool.{Bool, true, false}
 use mathlib.Core.Path.{_≡_, refl, sym, ap, ap₂, _∙_}
-use Prim.Native.Nat.{ℕ, _+_, _*_, _<_}
+use Prim.Native.Nat.{ℕ, _+_, _*_}
 use native.Mathlib.Nat.{mul-pos}
 use native.Mathlib.Omega.{arith}
 use lib.Dec.{ltb}
@@ -10,7 +10,7 @@ use borrow.Author.Tests.{eq-eqb, ne-eqb}
 use Rattle.basics.specs.Sum.{sum}
 use Rattle.basics.specs.Below.{count}
 use Rattle.refusal.specs.Table.{accepts}
-use Rattle.markov.proofs.Product.{first-below, IsJoint, rate-is, joint-moves}
+use Rattle.markov.proofs.Product.{IsJoint, rate-is, joint-moves}
 use Rattle.markov.proofs.ProductSets.{joint-reaches}
 use Rattle.reach.proofs.SideBySide.{both-only, both-shares}
 use Rattle.chain.specs.Rows.{Rows}
@@ -22,7 +22,8 @@ use Rattle.from_rates.proofs.FromLaws.{from-count, from-accepted, from-rate}
 use Rattle.from_rates.proofs.SameChain.{from-same}
 use Rattle.joined.specs.Joined.{jointRates, joined, entriesOf, SideBySide, JointChain}
 use Rattle.joined.specs.Verdict.{Joinable}
-use Rattle.joined.proofs.RateLaws.{first-rate}
+use Rattle.joined.proofs.RateLaws.{joint-own}
+use Rattle.joined.proofs.OneState.{first-alone, second-alone}
 
 -- one of two terms, or none
 first-term : {s t : Bool} (u v : ℕ) → s ≡ true → t ≡ false → count s * u + count t * v ≡ u
@@ -53,16 +54,13 @@ module _ {first second : Rows} (p : Joinable first second) where
   joint-order : SoundOrder (first .order * second .order)
   joint-order = record { low = mul-pos (p .first-accepted .sound .order .low) (p .second-accepted .sound .order .low); high = p .order }
 
-  pub joint-own : (x : ℕ) → x < first .order * second .order → jointRates first second x x ≡ 0
-  joint-own x l = sym (first-rate p x x refl) ∙ rate-own (p .first-accepted .sound) _ (first-below (first .order) (second .order) x l)
-
   pub joined-accepted : Accepted (joined first second)
   unfolding joined
-  joined-accepted = from-accepted (first .order * second .order) (jointRates first second) joint-order joint-own
+  joined-accepted = from-accepted (first .order * second .order) (jointRates first second) joint-order (joint-own p)
 
   is-joint : IsJoint (first .order) (second .order) (rateIn first) (rateIn second) (rateIn (joined first second))
   unfolding joined
-  is-joint = record { at = from-rate (first .order * second .order) (jointRates first second) joint-order joint-own }
+  is-joint = record { at = from-rate (first .order * second .order) (jointRates first second) joint-order (joint-own p) }
 
   side-by-side : SideBySide (first .order) (second .order) (rateIn first) (rateIn second) (rateIn (joined first second))
   side-by-side = record {
@@ -80,4 +78,6 @@ module _ {first second : Rows} (p : Joinable first second) where
     chain-is = refl;
     passes = sound-accepted (joined first second) joined-accepted ∙ ap accepts (joined-count (p .first-accepted) (p .second-accepted));
     side-by-side = side-by-side;
+    first-alone = first-alone p;
+    second-alone = second-alone p;
   }

@@ -11,8 +11,7 @@ use Rattle.from_rates.specs.FromRates.{fromRates}
 use Rattle.from_rates.proofs.SameChain.{from-cong, from-same}
 use Rattle.joined.specs.Joined.{jointRates, joined}
 use Rattle.joined.specs.Verdict.{Joinable}
-use Rattle.joined.proofs.RateLaws.{first-rate, second-rate}
-use Rattle.joined.proofs.JoinedLaws.{joint-own}
+use Rattle.joined.proofs.RateLaws.{first-rate, second-rate, joint-own}
 
 module _ {first second : Rows} (p : Joinable first second) where
   -- the second part has one state

@@ -1,7 +1,7 @@
 -- The rate between two joint states, by which part moves. Assumes nothing.
 use mathlib.Core.Bool.{Bool}
 use mathlib.Core.Logic.{_≢_}
-use mathlib.Core.Path.{_≡_}
+use mathlib.Core.Path.{_≡_, refl, sym, _∙_}
 use Prim.Native.Nat.{ℕ, _+_, _*_, _/_, _%_, _<_}
 use native.Mathlib.Nat.{mod-lt}
 use native.Mathlib.Omega.{arith}
@@ -9,6 +9,7 @@ use lib.Dec.{eqb}
 use borrow.Author.Tests.{eq-eqb, ne-eqb}
 use Rattle.basics.specs.Below.{count}
 use Rattle.markov.specs.Product.{jointRate}
+use Rattle.markov.proofs.Product.{first-below}
 use Rattle.chain.specs.Rows.{Rows}
 use Rattle.chain.specs.Meaning.{rateIn}
 use Rattle.chain.proofs.RateLaws.{rate-own}
@@ -39,3 +40,7 @@ module _ {first second : Rows} (p : Joinable first second) (x y : ℕ) where
   pub no-rate : x % second .order ≢ y % second .order → x / second .order ≢ y / second .order → 0 ≡ jointRates first second x y
   unfolding jointRate count
   no-rate d e = rw (ne-eqb _ _ d, ne-eqb _ _ e) (omega arith)
+
+-- no joint state moves to itself
+pub joint-own : {first second : Rows} → Joinable first second → (x : ℕ) → x < first .order * second .order → jointRates first second x x ≡ 0
+joint-own {first} {second} p x l = sym (first-rate p x x refl) ∙ rate-own (p .first-accepted .sound) _ (first-below (first .order) (second .order) x l)

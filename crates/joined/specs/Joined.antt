@@ -47,3 +47,6 @@ pub record JointChain (first second joint : Rows) : Type 0 where
   pub chain-is : joint ≡ joined first second
   pub passes : checked joint ≡ accepts (entriesOf first second)
   pub side-by-side : SideBySide (first .order) (second .order) (rateIn first) (rateIn second) (rateIn joint)
+  -- a part of one state gives the other part back, slice for slice
+  pub first-alone : second .order ≡ 1 → joint ≡ first
+  pub second-alone : first .order ≡ 1 → joint ≡ second

@@ -193,8 +193,8 @@ fn put_rows(
 }
 
 // Joins two chains, of orders a and b: the chain of order a × b whose state i × b + j has the first in i and the second in j goes to the three
-// last slices; the answer is the number of its entries, or the first refusal: of the first part by 1, 2, 3, 4, 14, of the second by the same,
-// of the joint chain by 15 and 5. The contract, `Joins`, holds for any input.
+// last slices; the answer is the number of its entries, or the first refusal in the order of docs/FORMAT.md, of the first part, of the second
+// or of the joint chain. The contract, `Joins`, holds for any input.
 pub fn join(
     a: usize,
     starts1: &[u32],

@@ -62,8 +62,8 @@ fn put_digits(bytes: &[u8], text: &mut [u8])
 
 // The first bytes of a file's buffer, so many, in hexadecimal digits.
 fn print_bytes(buffer: &[u8], size: usize) {
-    let mut text = [0u8; 33282];
-    if size <= buffer.len() && size <= 16641 {
+    let mut text = [0u8; 2 * layout::LONGEST_FILE];
+    if size <= buffer.len() && size <= layout::LONGEST_FILE {
         put_digits(&buffer[..size], &mut text);
         io::write_all(STDOUT_FILENO, &text[..2 * size]);
     }
@@ -101,7 +101,7 @@ fn joint_order(a: usize, b: usize) -> usize {
 
 // Writes a chain that stands in lent slices, and prints the file.
 fn print_file(order: usize, entries: usize, starts: &[u32], columns: &[u32], rates: &[u32]) {
-    let mut out = [0u8; 16641];
+    let mut out = [0u8; layout::LONGEST_FILE];
     if order < starts.len() && entries <= columns.len() && entries <= rates.len() {
         match storage::write(
             order,
@@ -190,12 +190,12 @@ fn print_line(
     columns: &mut [u32],
     rates: &mut [u32],
 ) {
-    let mut starts1 = [0u32; 65];
-    let mut columns1 = [0u32; 4032];
-    let mut rates1 = [0u32; 4032];
-    let mut starts2 = [0u32; 65];
-    let mut columns2 = [0u32; 4032];
-    let mut rates2 = [0u32; 4032];
+    let mut starts1 = [0u32; layout::MOST_STARTS];
+    let mut columns1 = [0u32; layout::MOST_ENTRIES];
+    let mut rates1 = [0u32; layout::MOST_ENTRIES];
+    let mut starts2 = [0u32; layout::MOST_STARTS];
+    let mut columns2 = [0u32; layout::MOST_ENTRIES];
+    let mut rates2 = [0u32; layout::MOST_ENTRIES];
     match read_part(first, old, &mut starts1, &mut columns1, &mut rates1) {
         Reading::Refused(refusal) => print_unread(b"first ", refusal),
         Reading::Chain {
@@ -231,9 +231,9 @@ fn print_line(
 
 // With room for every joint chain, of files without rates of 0.
 fn with_room(first: &[u8], second: &[u8]) {
-    let mut starts = [5000u32; 65];
-    let mut columns = [5000u32; 4032];
-    let mut rates = [5000u32; 4032];
+    let mut starts = [5000u32; layout::MOST_STARTS];
+    let mut columns = [5000u32; layout::MOST_ENTRIES];
+    let mut rates = [5000u32; layout::MOST_ENTRIES];
     print_line(first, second, false, &mut starts, &mut columns, &mut rates);
 }
 
@@ -266,7 +266,7 @@ fn all_pairs(first: &mut [u8], second: &mut [u8]) {
 }
 
 fn main() {
-    let mut first = [0u8; 16642];
-    let mut second = [0u8; 16642];
+    let mut first = [0u8; layout::ENOUGH_BYTES];
+    let mut second = [0u8; layout::ENOUGH_BYTES];
     all_pairs(&mut first, &mut second);
 }

@@ -1,2 +1,3 @@
--- Laws of the columns of a stored chain.
+-- Bytes that tell their places, by evaluation, and laws of the columns of a stored chain.
+pub mod Cases
 pub mod Columns

@@ -51,3 +51,11 @@ fileOf c = c .order ∷ rowsBytes (c .order) (c .starts) (c .columns) (c .rates)
 -- "a file has 1 + n × (map bytes) + 4 × (entries) bytes"
 abbrev pub fileSize : ℕ → ℕ → ℕ
 fileSize n entries = 1 + n * mapBytes n + 4 * entries
+
+-- "at most 16,641": 64 states, and an entry from each of them to each other
+abbrev pub longestFile : ℕ
+longestFile = 16641
+
+-- "at most 16,642 bytes suffice": one more
+abbrev pub enoughBytes : ℕ
+enoughBytes = 16642

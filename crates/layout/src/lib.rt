@@ -4,6 +4,16 @@ ghost use Prim.Native.Nat.{_+_, _/_, _<_, _≤_};
 ghost use lib.ListN.{length, getD};
 ghost use Rattle.layout.specs.Bytes.{bitAt, storedRate};
 
+// What suffices for every chain of 64 states, each with an entry at every other: starts, entries, and the bytes of its file.
+pub const MOST_STARTS: usize = 65;
+
+pub const MOST_ENTRIES: usize = 4032;
+
+pub const LONGEST_FILE: usize = 16641;
+
+// One byte more, so that a program that reads no more of its input tells a file that is too long.
+pub const ENOUGH_BYTES: usize = 16642;
+
 // Bit j of the map that begins at a place.
 pub fn bit_at(bytes: &[u8], map: usize, j: usize) -> bool
     requires { ⌜ map + j / 8 < length (now bytes) ⌝ }

@@ -1,13 +1,15 @@
--- The elimination of document 01's cases 2 and 3 in exact arithmetic, by evaluation of the definitions. Assumes nothing.
+-- The elimination of document 01's cases 2 and 3 in exact arithmetic, and the order of its operations in numbers of any kind, by evaluation
+-- of the definitions. Assumes nothing.
 use mathlib.Core.Path.{_≡_, refl}
 use mathlib.Core.Bool.{cond, _&&_}
 use Prim.Native.Nat.{ℕ, _+_, _*_}
+use native.Mathlib.Omega.{arith}
 use lib.Dec.{eqb}
 use Rattle.basics.specs.Sum.{sum, prod}
-use Rattle.markov.specs.Chain.{Rates}
+use Rattle.markov.specs.Chain.{Rates, Balances}
 use Rattle.basics.specs.Below.{count, all, put}
 use Rattle.markov.specs.Weight.{over, led, leads, moves, weight}
-use Rattle.markov.specs.Elimination.{total, pivotOf, quotientAt, next, weights, shares}
+use Rattle.markov.specs.Elimination.{Ops, total, pivotOf, quotientAt, next, weights, shares}
 use Rattle.markov.proofs.StepCounts.{mark, positives, stepCount, eliminationCount}
 use Rattle.markov.proofs.ExactNumbers.{Num, number, units, fraction, exact}
 
@@ -48,3 +50,33 @@ pub computed-3 : (weights (exact 7) 2 (matrix 7 case3) 0 ≡ number 28) × (weig
     × (eliminationCount (exact 7) units 2 (matrix 7 case3) ≡ 10)
 unfolding weights shares total pivotOf quotientAt next exact fraction matrix case3 only eliminationCount stepCount positives mark sum
 computed-3 = (refl, refl, refl, refl, refl, refl, refl)
+
+-- ---- the order of the operations, over numbers of any kind: the bits of the cases above do not tell it
+
+module _ {X : Type 0} (O : Ops X) (a : ℕ → ℕ → X) where
+  -- "the sum of the entries (k, j), j rising from k + 1", from Zero
+  pub pivot-rising : pivotOf O 3 a ≡ O .add (O .add (O .add (O .nought) (a 0 1)) (a 0 2)) (a 0 3)
+  unfolding pivotOf total
+  pivot-rising = refl
+
+  -- "itself plus the product of entry (i, k) and t(j)", where t(j) is "entry (k, j) divided by s"
+  pub product-of-quotient : next O 3 a 0 1 ≡ O .add (a 1 2) (O .mul (a 1 0) (O .div (a 0 2) (pivotOf O 3 a)))
+  unfolding next quotientAt
+  product-of-quotient = refl
+
+  -- "the sum, j rising from k + 1, of weight j times entry (j, k) .., divided once by that step's s"
+  pub back-rising : weights O 2 a 0
+      ≡ O .div (O .add (O .add (O .nought) (O .mul (weights O 1 (next O 2 a) 0) (a 1 0))) (O .mul (weights O 1 (next O 2 a) 1) (a 2 0))) (pivotOf O 2 a)
+  unfolding weights total
+  back-rising = refl
+
+  -- "weight k divided by the sum of all weights taken from state 0 up"
+  pub share-rising : shares O 2 a 1 ≡ O .div (weights O 2 a 1) (O .add (O .add (O .add (O .nought) (weights O 2 a 0)) (weights O 2 a 1)) (weights O 2 a 2))
+  unfolding shares total
+  share-rising = refl
+
+-- ---- "a list of whole numbers, not all 0"
+
+-- so 0 everywhere balances no chain
+pub zeros-balance-nothing : (n : ℕ) (rate : Rates) → Balances n rate (λ i. 0) → ⊥
+zeros-balance-nothing n rate b = omega (arith, b .not-zero)

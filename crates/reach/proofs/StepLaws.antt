@@ -9,7 +9,7 @@ use native.Mathlib.Numerals.{add-one}
 use native.Mathlib.Omega.{arith}
 use lib.Bits.{bitOr}
 use lib.Dec.{eqb, ltb}
-use lib.ListN.{length, getD, set, length-set}
+use lib.ListN.{length, getD, set}
 use borrow.Author.Tests.{lt-ltb, le-ltb}
 use Rattle.basics.specs.Sum.{sum}
 use Rattle.basics.proofs.SumLaws.{sum-zero, sum-last}
@@ -18,7 +18,7 @@ use Rattle.chain.specs.Meaning.{adds, rateIn}
 use Rattle.basics.proofs.BoolLaws.{and-no-first, and-decides}
 use Rattle.reach.specs.Reach.{via, stands, Hold}
 use Rattle.reach.specs.Inner.{viaBelow}
-use Rattle.reach.proofs.MaskLaws.{stands-or, stands-zero, stands-past, hold-set, zeros, hold-zeros}
+use Rattle.reach.proofs.MaskLaws.{stands-or, stands-zero, hold-set, zeros, hold-zeros}
 
 -- what is added under a test
 added : (a b c : Bool) → b ≡ true → (a || c) ≡ (a || (b && c))
@@ -129,11 +129,10 @@ abbrev steppedTo : ℕ → ℕ → List ℕ → ℕ → ℕ → ℕ → Bool
 steppedTo k through old i p j = cond (ltb p i) (stepped k through old p j) (stands (getD old p 0) j)
 
 pub record Pass (k through : ℕ) (old : List ℕ) (i : ℕ) (next : List ℕ) : Type 0 where
-  pub long : length next ≡ length old
   pub held : Hold next (steppedTo k through old i)
 
 pub pass-none : (k through : ℕ) (old : List ℕ) → Pass k through old 0 old
-pass-none k through old = record { long = refl; held = record { bit = λ p j. rw (le-ltb p 0 (omega arith)) } }
+pass-none k through old = record { held = record { bit = λ p j. rw (le-ltb p 0 (omega arith)) } }
 
 module _ {k through : ℕ} {old : List ℕ} {i : ℕ} {next : List ℕ} (h : Pass k through old i next) where
   kept : (j : ℕ) → stands (getD next i 0) j ≡ stands (getD old i 0) j
@@ -143,7 +142,6 @@ module _ {k through : ℕ} {old : List ℕ} {i : ℕ} {next : List ℕ} (h : Pas
       → ((j : ℕ) → stands mask j ≡ (stands (getD next i 0) j || (stands (getD next i 0) k && stands through j)))
       → Pass k through old (i + 1) (set next i mask)
   pass-more mask l new = record {
-    long = length-set next i mask ∙ h .long;
     held = hold-set next i mask (steppedTo k through old i) (steppedTo k through old (i + 1)) l (h .held)
         (λ j. new j
         ∙ ap₂ (λ (a b : Bool). a || (b && stands through j)) (kept j) (kept k)
@@ -151,15 +149,19 @@ module _ {k through : ℕ} {old : List ℕ} {i : ℕ} {next : List ℕ} (h : Pas
         (λ p j d. ap (λ (b : Bool). cond b (stepped k through old p j) (stands (getD old p 0) j)) (below-more p i d));
   }
 
-  past : (p j : ℕ) → length old ≤ p → i ≤ p → steppedTo k through old i p j ≡ stepped k through old p j
-  past p j l m =
-      let z : (x : ℕ) → stands (getD old p 0) x ≡ false = λ x. stands-past old p x l in
+  past : (p j : ℕ) → ((x : ℕ) → stands (getD old p 0) x ≡ false) → i ≤ p → steppedTo k through old i p j ≡ stepped k through old p j
+  past p j z m =
       ap (λ (b : Bool). cond b (stepped k through old p j) (stands (getD old p 0) j)) (le-ltb p i m)
       ∙ z j ∙ sym (ap₂ (λ (a b : Bool). a || (b && stands through j)) (z j) (z k))
 
-  pub pass-all : length next ≤ i → Hold next (stepped k through old)
-  pass-all l =
-      record { bit = λ p j. h .held .bit p j ∙ elim (decLt p i) [ yes m ↦ rw (lt-ltb p i m) | no m ↦ past p j (omega (arith, h .long)) (omega arith) ] }
+  -- where no bit stands in the masks from i on, the step is done for all states
+  pub pass-all : ((p j : ℕ) → i ≤ p → stands (getD old p 0) j ≡ false) → Hold next (stepped k through old)
+  pass-all z =
+      record { bit = λ p j. h .held .bit p j ∙ elim (decLt p i) [ yes m ↦ rw (lt-ltb p i m) | no m ↦ past p j (λ x. z p x (omega arith)) (omega arith) ] }
+
+-- no bit stands in the masks from n on
+pub beyond : {n : ℕ} {c : Rows} {k : ℕ} {masks : List ℕ} → Reached n c k masks → (i j : ℕ) → n ≤ i → stands (getD masks i 0) j ≡ false
+beyond {n} h i j l = h .held .bit i j ∙ and-no-first _ _ (le-ltb i n l)
 
 -- the step at k < n takes the paths by way of states below k to those below k + 1
 pub close-more : {n : ℕ} {c : Rows} {k : ℕ} {old : List ℕ} → Reached n c k old → (new : List ℕ) → k < n

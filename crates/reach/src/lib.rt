@@ -86,27 +86,17 @@ fn close_row(row: u64, through: u64, k: usize) -> u64
     if test_bit(row, k) { row | through } else { row }
 }
 
-// A step of the closure: what state k reaches is added to each state that reaches k.
-fn close_over(masks: Masks, k: usize) -> Masks
-    requires { ⌜ k < 64 ⌝ }
-    ensures { λ r. ⌜ Hold (r .rows) (λ i j. bits (masks .rows) i j || (bits (masks .rows) i k && bits (masks .rows) k j)) ⌝ }
-{
-    let through = masks.rows[k];
-    let mut next = masks;
-    for i in 0..64 {
-        next.rows[i] = close_row(next.rows[i], through, k);
-    }
-    next
-}
-
-// The masks of a chain whose rules hold.
+// The masks of a chain whose rules hold. Step k adds what state k reaches to each state that reaches k; from n on no mask has a bit.
 fn closure(n: usize, starts: &[u32], columns: &[u32], rates: &[u32]) -> Masks
     requires { ⌜ Sound (inRows n starts columns rates) ⌝ }
     ensures { λ r. ⌜ Hold (r .rows) (viaBelow n (rateIn (inRows n (starts .entry) (columns .entry) (rates .entry))) n) ⌝ }
 {
     let mut masks = first_masks(n, starts, columns, rates);
     for k in 0..n {
-        masks = close_over(masks, k);
+        let through = masks.rows[k];
+        for i in 0..n {
+            masks.rows[i] = close_row(masks.rows[i], through, k);
+        }
     }
     masks
 }

@@ -2,6 +2,8 @@
 -- whose fault it is.
 use Prim.Native.Nat.{ℕ}
 use mathlib.Core.List.{List}
+use mathlib.Core.Logic.{_≢_}
+use mathlib.Core.Path.{_≡_}
 use lib.Seq.{sets}
 use Rattle.refusal.specs.declared.ChainReason.{ChainReason}
 use Rattle.refusal.specs.declared.ChainReason.the-variants as chain
@@ -63,6 +65,13 @@ refusal r = refuses (side r) (line r)
 abbrev pub verdict : Outcome → Verdict ℕ
 verdict (Done k) = accepts k
 verdict (Refused r) = refusal r
+
+-- What the table promises of the line l of a refusal r: 7, which R-7 took out, is the number of none, and the verdict fixes the case of the
+-- enum: no other refusal has that side, number and places.
+pub record Listed (r : Refusal) (l : Line) : Type 0 where
+  pub line-is : l ≡ line r
+  pub never-7 : l .number ≢ 7
+  pub the-only : (other : Refusal) → verdict (Refused other) ≡ refuses (side r) l → other ≡ r
 
 -- a refusal is passed on; otherwise what is tried next decides
 abbrev pub andThen : {A B : Type 0} → Verdict A → (A → Verdict B) → Verdict B

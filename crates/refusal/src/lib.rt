@@ -1,5 +1,5 @@
 ghost use mathlib.Core.Path.{_≡_};
-ghost use Rattle.refusal.specs.Table.{numbered, line};
+ghost use Rattle.refusal.specs.Table.{numbered, line, Listed};
 
 // Why a chain is turned away. The places are those of document 01's table.
 pub enum ChainReason {
@@ -97,7 +97,7 @@ fn bytes_line(reason: BytesReason) -> Line
 
 // The number of a refusal and its two places.
 pub fn listed(refusal: Refusal) -> Line
-    ensures { λ r. ⌜ r ≡ line refusal ⌝ }
+    ensures { λ r. ⌜ Listed refusal r ⌝ }
 {
     match refusal {
         Refusal::Chain(reason) => chain_line(reason),

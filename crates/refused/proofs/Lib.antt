@@ -1,2 +1,3 @@
--- The length of the line of a refusal.
+-- The line of a refusal: a case of it, and its length.
+pub mod Cases
 pub mod RefusedLaws

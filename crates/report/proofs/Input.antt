@@ -1,4 +1,4 @@
--- The first 16642 bytes of an input decide its text. Assumes nothing.
+-- The first `enoughBytes` bytes of an input decide its text. Assumes nothing.
 use Prim.Native.Nat.{ℕ, _<_}
 use mathlib.Core.Bool.{Bool, true, false}
 use mathlib.Core.List.{List}
@@ -14,7 +14,8 @@ use Rattle.checking.specs.Sound.{zerosRefused}
 use Rattle.checking.specs.Verdict.{fileChecked}
 use Rattle.storage.proofs.Passes.{file-small}
 use Rattle.storage.proofs.Prefix.{Agree, file-same}
-use Rattle.report.specs.Report.{enoughBytes, textAfter, reportOf}
+use Rattle.layout.specs.File.{enoughBytes}
+use Rattle.report.specs.Report.{textAfter, reportOf}
 
 -- of any text that a refusal alone decides where bytes are refused
 pub prefix-decides : (zeros : Bool) (text : List ℕ → Verdict ℕ → List ℕ)

@@ -17,7 +17,7 @@ use Rattle.kernel.proofs.Cells.{square}
 use Rattle.storage.specs.declared.Reading.{Reading}
 use Rattle.storage.specs.declared.Reading.the-variants as reading
 use Rattle.storage.specs.Reading.{Stored, told, Read}
-use Rattle.layout.specs.Buffers.{Buffers, chainIn}
+use Rattle.layout.specs.Buffers.{Buffers, mostStarts, mostEntries, chainIn}
 use Rattle.checking.specs.Sound.{zerosRefused}
 use Rattle.storage.proofs.RoundTrips.{file-refused}
 use Rattle.solver.specs.Lent.{Lent, Roomy}
@@ -117,7 +117,7 @@ module _ {bytes : List ℕ} (small : (i : ℕ) → getD bytes i 0 < 256) where
 
 -- a reading into slices that have room for every chain
 module _ {bytes : List ℕ} {old new : Buffers} {r : Reading} (d : Read zerosRefused bytes old r new)
-    (a : length (old .starts) ≡ 65) (b : length (old .columns) ≡ 4032) (c : length (old .rates) ≡ 4032) where
+    (a : length (old .starts) ≡ mostStarts) (b : length (old .columns) ≡ mostEntries) (c : length (old .rates) ≡ mostEntries) where
   pub unread-text : {f : Refusal} → r ≡ reading.Refused f → refusedLine (line f) ≡ reportOf bytes
   unfolding reportOf
   unread-text q = rw (file-refused d a b c q)

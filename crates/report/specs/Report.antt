@@ -13,6 +13,7 @@ use Rattle.chain.specs.Rows.{Rows}
 use Rattle.chain.specs.Meaning.{rateIn}
 use Rattle.reach.specs.Answer.{setOf}
 use Rattle.layout.specs.Bytes.{chainOf}
+use Rattle.layout.specs.File.{enoughBytes}
 use Rattle.checking.specs.Sound.{zerosRefused}
 use Rattle.checking.specs.Verdict.{fileChecked}
 use Rattle.solver.specs.Solve.{weightsOf, sharesOf, countOf, solved, Balancing, Accurate}
@@ -37,10 +38,6 @@ textAfter bytes (refuses side line) = refusedLine line
 -- "It reads one stored chain": the text for any bytes
 unfoldable pub reportOf : List ℕ → List ℕ
 reportOf bytes = textAfter bytes (fileChecked zerosRefused bytes)
-
--- "at most 16,642 bytes suffice": one more than the longest file
-abbrev pub enoughBytes : ℕ
-enoughBytes = 16642
 
 -- no text is longer: the first line has at most 23 bytes, each of at most 64 lines of states at most 39
 abbrev pub longest : ℕ

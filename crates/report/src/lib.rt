@@ -1,4 +1,5 @@
 // What the printing program prints for any bytes, put at the front of a lent buffer.
+ghost use mathlib.Core.Path.{_≡_};
 ghost use Prim.Native.Nat.{_≤_, _<_};
 ghost use lib.ListN.{length};
 ghost use Rattle.chain.specs.Rows.{inRows};
@@ -7,6 +8,9 @@ ghost use Rattle.decimal.specs.Put.{Puts};
 ghost use Rattle.report.specs.Report.{longest, solvedText, Reports};
 use refusal::Outcome;
 use storage::Reading;
+
+// The bytes of the longest text.
+const LONGEST_TEXT: usize = 2519;
 
 // The text for a chain: its weights and shares, or the refusal of solving.
 fn put_solved(out: &mut [u8], order: usize, starts: &[u32], columns: &[u32], rates: &[u32]) -> usize
@@ -57,17 +61,24 @@ fn put_chain(
     )
 }
 
-// Puts the text for these bytes at the front of `out`: the answer is the number of its bytes. Where `out` has fewer than 2519 bytes,
-// nothing is changed and the answer is 0.
+// Room for the longest text, which suffices for `report`.
+pub fn text_buffer() -> [u8; LONGEST_TEXT]
+    ensures { λ r. ⌜ length r ≡ longest ⌝ }
+{
+    [0; LONGEST_TEXT]
+}
+
+// Puts the text for these bytes at the front of `out`: the answer is the number of its bytes. Where `out` has no room for the longest
+// text, nothing is changed and the answer is 0.
 pub fn report(bytes: &[u8], out: &mut [u8]) -> usize
     ensures { λ r. ⌜ Reports (now (bytes .entry)) (now (out .entry)) (now (out .exit)) r ⌝ }
 {
-    if out.len() < 2519 {
+    if out.len() < LONGEST_TEXT {
         return 0;
     }
-    let mut starts = [0u32; 65];
-    let mut columns = [0u32; 4032];
-    let mut rates = [0u32; 4032];
+    let mut starts = [0u32; layout::MOST_STARTS];
+    let mut columns = [0u32; layout::MOST_ENTRIES];
+    let mut rates = [0u32; layout::MOST_ENTRIES];
     match storage::read(bytes, &mut starts, &mut columns, &mut rates) {
         Reading::Chain { order, entries } => {
             put_chain(out, order, entries, &starts, &columns, &rates)

@@ -9,10 +9,10 @@ ghost use Prim.Native.Nat.{_+_, _*_, _/_, _%_, _≤_, _<_};
 ghost use lib.Dec.{T};
 ghost use lib.IntN.{_-ℤ_};
 ghost use lib.Signed.{mag, nonNeg};
-ghost use Rattle.scaled.specs.Scaled.{zeroNumber, isZero, topBit, exponentInRange, rangedNumber, isScaled, isNumber, sumOf, productOf, quotientOf, sumWithProduct, rateOf};
+ghost use Rattle.scaled.specs.Scaled.{zeroNumber, isZero, topBit, exponentInRange, rangedNumber, isScaled, isNumber, sumOf, productOf, quotientOf, sumWithProduct};
 ghost use Rattle.scaled.specs.Scaled.{dyadic, alignedSum, toNearest, nearest, exactSum, exactProduct, exactQuotient};
 ghost use Rattle.scaled.specs.Nearest.{RoundedToNearest};
-ghost use Rattle.scaled.specs.Units.{one, val, NoneExactly, oneNumber};
+ghost use Rattle.scaled.specs.Units.{one, val, NoneExactly, oneNumber, Converts};
 
 // m * 2^e: Zero is (0, 0); any other scaled number has m from 2^31 on and e from -16384 to 16383.
 pub struct Scaled {
@@ -271,14 +271,18 @@ pub fn quotient(a: Scaled, b: Scaled) -> Rounded
 }
 
 // x plus the product of a and t, each result rounded, for a caller who knows that x, a, t and the product are scaled numbers.
+// The factors are tested for Zero and not their product, of whose test the compiler makes slower code (docs/DECISIONS.md, "Adding a product").
 pub fn add_product(x: Scaled, a: Scaled, t: Scaled) -> Scaled
     requires { ⌜ (isScaled x ≡ true) × (isScaled a ≡ true) × (isScaled t ≡ true) × (isNumber (productOf a t) ≡ true) ⌝ }
     ensures { λ r. ⌜ rangedNumber r ≡ sumWithProduct x a t ⌝ }
 {
-    let n = a.m as u64 * t.m as u64;
-    if n == 0 {
+    if a.m == 0 {
         return x;
     }
+    if t.m == 0 {
+        return x;
+    }
+    let n = a.m as u64 * t.m as u64;
     let p = nearest_product(n, a.e + t.e);
     if x.m == 0 {
         return p;
@@ -289,9 +293,9 @@ pub fn add_product(x: Scaled, a: Scaled, t: Scaled) -> Scaled
     aligned_sum(x.m, x.e, p.m, p.e)
 }
 
-// A rate, converted exactly: its highest bit is brought to the top of m.
+// A rate, converted exactly: its highest bit is brought to the top of m. The scaled number means the rate.
 pub fn from_rate(x: u32) -> Scaled
-    ensures { λ r. ⌜ r ≡ rateOf x ⌝ }
+    ensures { λ r. ⌜ Converts x r ⌝ }
 {
     if x == 0 {
         return Scaled { m: 0, e: 0 };

@@ -4,7 +4,7 @@ use libc::STDIN_FILENO;
 use libc::STDOUT_FILENO;
 
 fn print_report(bytes: &[u8]) {
-    let mut text = [0u8; 2519];
+    let mut text = report::text_buffer();
     let n = report::report(bytes, &mut text);
     io::write_all(STDOUT_FILENO, &text[..n]);
 }
@@ -22,6 +22,6 @@ fn all_files(buffer: &mut [u8]) {
 }
 
 fn main() {
-    let mut buffer = [0u8; 16642];
+    let mut buffer = [0u8; layout::ENOUGH_BYTES];
     all_files(&mut buffer);
 }

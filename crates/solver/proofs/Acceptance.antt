@@ -4,13 +4,14 @@ use mathlib.Core.Bool.{Bool, true, false, false≢true}
 use mathlib.Core.Path.{_≡_, refl, sym, _∙_}
 use Prim.Native.Nat.{ℕ}
 use native.Mathlib.Omega.{arith}
+use Rattle.basics.proofs.BoolLaws.{not-so}
 use Rattle.refusal.specs.Table.{Verdict, accepts, refuses}
 use Rattle.chain.specs.Rows.{Rows}
 use Rattle.chain.specs.Rules.{checked}
-use Rattle.chain.proofs.Reading.{checked-says, accepted-whole, sound-accepted}
+use Rattle.chain.proofs.Reading.{checked-says, says-checked, accepted-whole, sound-accepted}
 use Rattle.reach.specs.Answer.{answered, AnswerSays}
 use Rattle.reach.specs.Answer as reach
-use Rattle.reach.proofs.AnswerLaws.{answered-says, answer-accepted}
+use Rattle.reach.proofs.AnswerLaws.{answered-says, says-answered, answer-accepted}
 use Rattle.solver.specs.Lent.{Lent, enoughIn}
 use Rattle.solver.specs.Solve.{countOf, solved, Solvable, SolveSays, rule-broken, no-room, two-closed, solves}
 use Rattle.solver.proofs.Room.{roomy, roomy-held}
@@ -50,3 +51,11 @@ module _ (c : Rows) (l : Lent) where
       go v (rule-broken p) q = let z : _≡_ {A = ℕ} 0 1 = cc in absurd (omega arith)
       go v (no-room s b) q = let z : _≡_ {A = ℕ} 0 1 = cc in absurd (omega arith)
       go v (two-closed s b h) q = let z : _≡_ {A = ℕ} 0 1 = cc in absurd (omega arith)
+
+  -- and a verdict whose facts hold is the verdict: `says` of the contract leaves one answer
+  pub says-solved : {v : Verdict ℕ} → SolveSays c l v → v ≡ solved c (enoughIn (c .order) l)
+  unfolding solved
+  says-solved (rule-broken p) = rw (← says-checked c p)
+  says-solved (no-room a h) = rw (sound-accepted c a, not-so (enoughIn (c .order) l) (λ t. h (roomy (c .order) l t)))
+  says-solved (two-closed a room h) = rw (sound-accepted c a, roomy-held (c .order) l room, ← says-answered c (reach.two-closed a h))
+  says-solved (solves h) = sym (solvable-accepted h)

@@ -30,6 +30,7 @@ use Rattle.solver.specs.Solve.{entries, setSize, setEntries, weightsOf, 
 use Rattle.elimination.specs.Inner.{matrixOf, Weighable, Ran}
 use Rattle.solver.proofs.Demands as demands
 use Rattle.solver.proofs.Ranges as ranges
+use Rattle.solver.proofs.AsBefore.{as-before}
 use Rattle.solver.proofs.Acceptance.{solved-says, solvable-accepted, accepted-solvable}
 use Rattle.basics.proofs.FillLaws.{length-replicate, table-length}
 use Rattle.elimination.proofs.Cleared.{both-equal}
@@ -112,6 +113,7 @@ module _ {c : Rows} {old : Lent} {r : Outcome} (q : verdict r ≡ solved c (enou
     weights = rw t;
     shares = rw t;
     the-set = λ k a. absurd (never k a);
+    irreducible = as-before c;
     in-range = λ k a. absurd (never k a);
     balancing = λ set o. demands.balancing (c .order) _ o;
     accurate = λ k a. absurd (never k a);
@@ -131,6 +133,7 @@ module _ {c : Rows} {old : Lent} {r : Outcome} (q : verdict r ≡ solved c (enou
     weights = weights-left;
     shares = shares-left;
     the-set = λ k p. o;
+    irreducible = as-before c;
     in-range = λ k p. ranges.in-range (h .accepted .sound) words (o .closed);
     balancing = λ set o. demands.balancing n _ o;
     accurate = λ k p.

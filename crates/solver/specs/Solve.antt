@@ -1,4 +1,5 @@
--- Document 01, changed by R-3, R-5 and R-7: what solving answers, and what it leaves in every lent place, for any input.
+-- Document 01, changed by R-3, R-4, R-5 and R-7: what solving answers and what that says of the input, what it leaves in every lent place, and
+-- what is promised of an accepted chain (the owner's three demands).
 use mathlib.Core.Bool.{Bool, true, false, cond}
 use mathlib.Core.Logic.{_≢_, _⊎_, _↔_}
 use mathlib.Core.Path.{_≡_}
@@ -11,9 +12,11 @@ use Rattle.basics.specs.Lists.{table}
 use Rattle.refusal.specs.Table.{Verdict, Side, accepts, refuses, of-chain, numbered, verdict, andThen, after}
 use Rattle.refusal.specs.declared.Line.{Line}
 use Rattle.refusal.specs.declared.Outcome.{Outcome}
-use Rattle.markov.specs.Chain.{Rates, Balances, InProportion}
+use Rattle.markov.specs.Chain.{Rates, Irreducible, Balances, InProportion}
 use Rattle.markov.specs.Closed.{OnlyClosed, HasAnswer, size, last, alone, setWeight, setWeights, setShares}
-use Rattle.markov.specs.Elimination.{total, pivotOf, weights}
+use Rattle.markov.specs.Weight.{weight}
+use Rattle.markov.specs.Elimination as elimination
+use Rattle.markov.specs.Elimination.{total, pivotOf}
 use Rattle.markov.specs.Count.{boundCount}
 use Rattle.markov.specs.Promises.{AllFitShares}
 use Rattle.range.specs.Range.{picked}
@@ -120,7 +123,9 @@ pub record Accurate (n : ℕ) (rate : Rates) (set : ℕ → Bool) (count : ℕ) 
 
 -- ---- R-7, for an accepted chain: "every number met on the way, group sums included, lies well inside the range"
 
--- a scaled number that is Zero, or has an e from -13500 to 13500 (the range runs from -16384 to 16383)
+-- a scaled number that is Zero, or has an e from -13500 to 13500 (the range runs from -16384 to 16383). By crate `range` every number met is
+-- 0 or lies from 2^-13300 to 2^13300 (`margin`); with an m of 32 digits its e is then from -13332 to 13332 (`exponent-within` of `scaled`: 32 more);
+-- 13500 is the round number above.
 pub record WellInside (x : Scaled) : Type 0 where
   pub scaled : isScaled x ≡ true
   pub exponent : (x ≡ zeroNumber) ⊎ (natAbs (x .e) ≤ 13500)
@@ -131,9 +136,19 @@ pub record AllInside (c : Rows) : Type 0 where
   pub numbers-met : AllFitShares ops WellInside (setSize c - 1) (setEntries c)
   -- nothing is divided by Zero: neither by the pivot of a step nor by the sum of the weights
   pub pivots : (k : ℕ) → k + 1 < setSize c → pivotOf ops (setSize c - (k + 1)) (stage (setSize c) k (setEntries c)) ≢ zeroNumber
-  pub total-weight : total ops (setSize c) (weights ops (setSize c - 1) (setEntries c)) ≢ zeroNumber
+  pub total-weight : total ops (setSize c) (elimination.weights ops (setSize c - 1) (setEntries c)) ≢ zeroNumber
   -- the sum, from Zero with the state rising, of those shares below k that a test picks
   pub groups : (test : ℕ → Bool) (k : ℕ) → k ≤ c .order → WellInside (picked ops test (sharesOf c) k)
+
+-- ---- where every state reaches every other, document 01's own condition, R-3 changes nothing
+
+-- all states are the set, and K, the weights and the shares, exact and computed, are those of the whole chain
+pub record WholeChain (c : Rows) : Type 0 where
+  pub set : (i : ℕ) → i < c .order → setOf c i ≡ true
+  pub count : countOf c ≡ boundCount (c .order)
+  pub exact : (i : ℕ) → i < c .order → setWeight (c .order) (rateIn c) (setOf c) i ≡ weight (c .order) (rateIn c) i
+  pub weights : (i : ℕ) → i < c .order → weightsOf c i ≡ elimination.weights ops (c .order - 1) (entries c) i
+  pub shares : (i : ℕ) → i < c .order → sharesOf c i ≡ elimination.shares ops (c .order - 1) (entries c) i
 
 -- ---- the contract of `solve`, with the lent slices as they were and as they are at exit
 
@@ -142,6 +157,7 @@ pub record Solved (c : Rows) (old : Lent) (r : Outcome) (new : Lent) : Type 0 wh
   pub says : SolveSays c old (verdict r)
   pub acceptance : Solvable c old ↔ (verdict r ≡ accepts (countOf c))
   pub the-set : (k : ℕ) → verdict r ≡ accepts k → OnlyClosed (c .order) (rateIn c) (setOf c)
+  pub irreducible : Accepted c → Irreducible (c .order) (rateIn c) → HasAnswer (c .order) (rateIn c) × WholeChain c
   pub work : new .work ≡ afterIn (verdict r) (old .work) (zeros (c .order * c .order))
   pub weights : new .weights ≡ afterIn (verdict r) (old .weights) (numbers (c .order) (weightsOf c))
   pub shares : new .shares ≡ afterIn (verdict r) (old .shares) (numbers (c .order) (sharesOf c))

@@ -70,9 +70,9 @@ fn admit(
     }
 }
 
-// Solves a chain: the weights (m, e) go to wm, we and the shares to sm, se; the answer is the bound count, or the first refusal of 1, 2, 3, 4, 14, 5, 6.
-// States outside the chain's closed set get Zero (R-3). m and e are work places. The contract, `Solved`, holds for any input: it says the
-// answer and what that means (demand 1), every lent place at exit, that the exact weights balance the whole chain and whatever balances it
+// Solves a chain: the weights (m, e) go to wm, we and the shares to sm, se; the answer is the bound count, or the first refusal in the
+// order of docs/FORMAT.md. States outside the chain's closed set get Zero (R-3). m and e are work places. The contract, `Solved`, holds for any input: it
+// says the answer and what that means (demand 1), every lent place at exit, that the exact weights balance the whole chain and whatever balances it
 // is in proportion to them (demand 2), and for an accepted chain how near the results are to them (demand 3) and that every number met lies well inside the range
 // (R-7).
 pub fn solve(

@@ -1,2 +1,3 @@
--- The exported calls from the calls within.
+-- The exported calls from the calls within, and what their contracts say in cases.
 pub mod Calls
+pub mod Cases

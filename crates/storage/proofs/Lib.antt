@@ -11,3 +11,4 @@ pub mod RoundTrips
 pub mod Determined
 pub mod Cases
 pub mod Prefix
+pub mod SaysLaws

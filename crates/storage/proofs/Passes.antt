@@ -15,7 +15,8 @@ use Rattle.chain.specs.Sound.{Sound}
 use Rattle.refusal.specs.Table.{accepts}
 use Rattle.layout.specs.Bytes.{mapBytes, bitAt, storedColumns, storedRates, rowEnd, storedCount, startsIn, columnsIn, ratesIn, orderOf, chainOf}
 use Rattle.checking.specs.Verdict.{firstBadBit, rowsChecked, fileChecked}
-use Rattle.layout.specs.File.{fileSize}
+use Rattle.layout.specs.File.{fileSize, longestFile}
+use Rattle.layout.specs.Buffers.{mostEntries}
 use Rattle.refusal.proofs.VerdictLaws.{accepted-if}
 use Rattle.layout.proofs.Columns.{length-rates-at}
 use Rattle.checking.proofs.Checks.{RowIs, row-of-file}
@@ -191,7 +192,7 @@ module _ (zeros : Bool) (bytes : List ℕ) (e : ℕ) (h : fileChecked zeros byte
   file-size = omega (arith, file-entries, rows-size bytes (orderOf bytes) zeros (orderOf bytes) 0 1 0 e (file-is zeros bytes e h .rows))
 
   -- a chain of 64 states has at most 64 × 63 entries
-  pub file-few : e ≤ 4032
+  pub file-few : e ≤ mostEntries
   file-few =
       let n = orderOf bytes in
       let o = file-is zeros bytes e h .order in
@@ -202,5 +203,5 @@ module _ (zeros : Bool) (bytes : List ℕ) (e : ℕ) (h : fileChecked zeros byte
       omega (arith, file-entries, c, m)
 
   -- "at most 16,641"
-  pub file-small : length bytes ≤ 16641
+  pub file-small : length bytes ≤ longestFile
   file-small = omega (arith, file-size, file-few, maps-le (orderOf bytes) (file-is zeros bytes e h .order .high))

@@ -1,4 +1,4 @@
--- The verdict on a file rests on its first 16642 bytes: where there are more, bytes are left over. Assumes nothing.
+-- The verdict on a file rests on its first `enoughBytes` bytes: where there are more, bytes are left over. Assumes nothing.
 use Prim.Native.Nat.{ℕ, zero, suc, _+_, _-_, _*_, _/_, _≤_, _<_}
 use mathlib.Core.Bool.{Bool, true, false, cond, _||_}
 use mathlib.Core.List.{List, [], _∷_}
@@ -13,6 +13,7 @@ use Rattle.chain.specs.Rules.{orderSound}
 use Rattle.chain.proofs.SoundLaws.{order-true}
 use Rattle.refusal.specs.Table.{Verdict, accepts, refuses, andThen}
 use Rattle.layout.specs.Bytes.{mapBytes, bitAt, holding, storedColumns, storedCount, storedRate, orderOf}
+use Rattle.layout.specs.File.{enoughBytes}
 use Rattle.checking.specs.Verdict.{badBit, firstBadBit, bytesRefused, rateChecked, ratesChecked, rowChecked, rowsChecked, fileChecked}
 use Rattle.checking.proofs.Checks.{row-is}
 use Rattle.storage.proofs.Passes.{row-few}
@@ -101,7 +102,7 @@ module _ {k : ℕ} {s t : List ℕ} (a : Agree k s t) where
 
 -- ---- a whole file
 
-pub file-same : (zeros : Bool) {s t : List ℕ} → Agree 16642 s t → fileChecked zeros s ≡ fileChecked zeros t
+pub file-same : (zeros : Bool) {s t : List ℕ} → Agree enoughBytes s t → fileChecked zeros s ≡ fileChecked zeros t
 unfolding fileChecked
 file-same zeros {s} {t} a =
     rw (lt-ltb 0 (length s) (omega (arith, a .long-s)), lt-ltb 0 (length t) (omega (arith, a .long-t)), a .same 0 (omega arith))

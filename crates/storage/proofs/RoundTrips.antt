@@ -13,7 +13,7 @@ use Rattle.refusal.specs.Table.{Verdict, accepts, refuses, side, line, refusal,
 use Rattle.refusal.specs.declared.Refusal.{Refusal}
 use Rattle.layout.specs.Bytes.{orderOf}
 use Rattle.layout.specs.File.{fileSize}
-use Rattle.layout.specs.Buffers.{Buffers}
+use Rattle.layout.specs.Buffers.{Buffers, mostStarts, mostEntries}
 use Rattle.storage.specs.declared.Reading.{Reading}
 use Rattle.storage.specs.declared.Reading.the-variants as reading
 use Rattle.storage.specs.Reading.{told, Read}
@@ -43,18 +43,19 @@ read-then-write bytes old r new d n e a out w out′ x room =
     let b : verdict w ≡ accepts (length bytes) = x .answer ∙ rw (s .passes, fits, s .size) in
     (b, sym (x .stored (length bytes) b .file) ∙ s .file)
 
--- 65 starts and 4032 entries do for every file: no reading into slices of these lengths is refused by 5
-pub read-always : (zeros : Bool) (bytes : List ℕ) (v : Verdict ℕ) → fileChecked zeros bytes ≡ v → andThen v (λ e. accepts (orderOf bytes, e)) ≡ readVerdict zeros bytes 65 4032 4032
+-- `mostStarts` and `mostEntries` do for every file: no reading into slices of these lengths is refused by 5
+pub read-always : (zeros : Bool) (bytes : List ℕ) (v : Verdict ℕ) → fileChecked zeros bytes ≡ v
+    → andThen v (λ e. accepts (orderOf bytes, e)) ≡ readVerdict zeros bytes mostStarts mostEntries mostEntries
 unfolding readVerdict
 read-always zeros bytes (accepts e) h =
     let few = file-few zeros bytes e h in
-    let room : HasRoom (orderOf bytes) e 65 4032 4032 = record { for-starts = omega (arith, file-is zeros bytes e h .order .high); for-columns = few; for-rates = few } in
-    read-room zeros bytes 65 4032 4032 e h (room-is (orderOf bytes) e 65 4032 4032 room)
+    let room : HasRoom (orderOf bytes) e mostStarts mostEntries mostEntries = record { for-starts = omega (arith, file-is zeros bytes e h .order .high); for-columns = few; for-rates = few } in
+    read-room zeros bytes mostStarts mostEntries mostEntries e h (room-is (orderOf bytes) e mostStarts mostEntries mostEntries room)
 read-always zeros bytes (refuses side line) h = rw h
 
 -- so where it is refused, the bytes are
 module _ {zeros : Bool} {bytes : List ℕ} {old new : Buffers} {r : Reading} (d : Read zeros bytes old r new)
-    (a : length (old .starts) ≡ 65) (b : length (old .columns) ≡ 4032) (c : length (old .rates) ≡ 4032) where
+    (a : length (old .starts) ≡ mostStarts) (b : length (old .columns) ≡ mostEntries) (c : length (old .rates) ≡ mostEntries) where
   pub file-refused : {f : Refusal} → r ≡ reading.Refused f → fileChecked zeros bytes ≡ refusal f
   file-refused {f} q = go (fileChecked zeros bytes) refl
     where
@@ -72,5 +73,5 @@ module _ {zeros : Bool} {bytes : List ℕ} {old new : Buffers} {r : Reading} (d 
           absurd (omega arith)
 
 -- and what is read has no more entries than a chain of 64 states can have
-pub read-few : {zeros : Bool} {bytes : List ℕ} {old new : Buffers} {r : Reading} {n e : ℕ} → Read zeros bytes old r new → r ≡ reading.Chain n e → e ≤ 4032
+pub read-few : {zeros : Bool} {bytes : List ℕ} {old new : Buffers} {r : Reading} {n e : ℕ} → Read zeros bytes old r new → r ≡ reading.Chain n e → e ≤ mostEntries
 read-few {zeros} {bytes} {n = n} {e = e} d q = file-few zeros bytes e (d .stored n e (ap told q) .accepted)

@@ -10,7 +10,7 @@ use Rattle.refusal.specs.Table.{Verdict, accepts, refusal, after}
 use Rattle.storage.specs.declared.Reading.{Reading}
 use Rattle.storage.specs.declared.Reading.the-variants.{Chain, Refused}
 use Rattle.layout.specs.Bytes.{chainOf}
-use Rattle.layout.specs.File.{fileOf, fileSize}
+use Rattle.layout.specs.File.{fileOf, fileSize, longestFile}
 use Rattle.checking.specs.Verdict.{fileChecked, readVerdict, ReadSays}
 use Rattle.layout.specs.Buffers.{Buffers, chainIn}
 
@@ -28,7 +28,7 @@ pub record Stored (zeros : Bool) (c : Rows) (e : ℕ) (bytes : List ℕ) : Type 
   pub file : fileOf c ≡ bytes
   pub chain : chainOf bytes ≡ c
   pub size : length bytes ≡ fileSize (c .order) e
-  pub at-most : length bytes ≤ 16641
+  pub at-most : length bytes ≤ longestFile
 
 -- what a reading answers, and the three slices at its exit
 pub record Read (zeros : Bool) (bytes : List ℕ) (old : Buffers) (r : Reading) (new : Buffers) : Type 0 where

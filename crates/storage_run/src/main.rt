@@ -114,10 +114,10 @@ fn print_line(
 
 // With room for every chain.
 fn with_room(bytes: &[u8]) {
-    let mut starts = [0u32; 65];
-    let mut columns = [0u32; 4032];
-    let mut rates = [0u32; 4032];
-    let mut out = [0u8; 16641];
+    let mut starts = [0u32; layout::MOST_STARTS];
+    let mut columns = [0u32; layout::MOST_ENTRIES];
+    let mut rates = [0u32; layout::MOST_ENTRIES];
+    let mut out = [0u8; layout::LONGEST_FILE];
     print_line(bytes, &mut starts, &mut columns, &mut rates, &mut out);
 }
 
@@ -148,6 +148,6 @@ fn all_files(buffer: &mut [u8]) {
 }
 
 fn main() {
-    let mut buffer = [0u8; 16642];
+    let mut buffer = [0u8; layout::ENOUGH_BYTES];
     all_files(&mut buffer);
 }

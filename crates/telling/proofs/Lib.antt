@@ -1,2 +1,3 @@
--- Laws of the answer slice.
+-- The answer slice, and what it holds in cases.
 pub mod Answers
+pub mod Cases

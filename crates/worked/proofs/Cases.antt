@@ -1,5 +1,5 @@
--- Document 01's table of worked cases is right, by evaluation of the definitions. Above `scaled` only this file and the printed
--- example of crate `report` unfold its sum, product, quotient and conversion, since they state bits. Assumes nothing.
+-- The table of worked cases, document 01's as the requests changed them and with theirs, is right, by evaluation of the definitions. Above
+-- `scaled` only cases that state bits, here and in `report` and `cleaning`, unfold its sum, product, quotient and conversion. Assumes nothing.
 use mathlib.Core.Path.{refl}
 use Rattle.basics.specs.Sum.{sum, prod}
 use Rattle.scaled.specs.Scaled.{bitLengthUpTo, bitLength, isScaledAt, upward, carried, nearest, roundedSum, roundedProduct, roundedQuotient, converted, isScaled, sumOf, productOf, quotientOf, rateOf}
@@ -42,6 +42,12 @@ cases-hold = record {
   case-7 = record { accepted = refl; exact-weights = refl; weights-are = refl; shares-are = refl };
   ring = record { accepted = refl; exact-weights = refl; weights-are = refl; shares-are = refl };
   case-2-twice = record { accepted = refl; exact-weights = refl; weights-are = refl; shares-are = refl };
+  order-of-operations = record { accepted = refl; exact-weights = refl; weights-are = refl; shares-are = refl };
+  bytes-stored = record { accepted = refl; chain-is = refl; file-is = refl };
+  refusal-5 = refl;
+  other-slices = (refl, refl, refl, refl, refl);
+  order-14-5 = refl;
+  order-5-6 = refl;
   refusal-6 = refl;
   traps = refl;
   case-8 = (refl, refl, refl, refl);

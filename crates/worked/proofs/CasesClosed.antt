@@ -1,6 +1,6 @@
 -- The theorems used on case 7, whose state 2 is outside the closed set: both error bounds in numbers, balance and uniqueness for the whole
 -- chain, and that all numbers met are in range. Assumes nothing.
-use mathlib.Core.Bool.{false}
+use mathlib.Core.Bool.{true, false}
 use mathlib.Core.List.{List}
 use mathlib.Core.Path.{_≡_, refl, ap, _∙_}
 use Prim.Native.Nat.{ℕ, zero, suc, _*_, _<_}
@@ -32,19 +32,19 @@ use Rattle.worked.proofs.Cases.{cases-hold}
 
 -- ---- the numbers of the table, state by state
 
-exact-0 : setWeight 3 (rateIn chain7) (setOf chain7) 0 ≡ 1
+pub exact-0 : setWeight 3 (rateIn chain7) (setOf chain7) 0 ≡ 1
 unfolding table
 exact-0 = ap (λ (xs : List ℕ). getD xs 0 0) (cases-hold .case-7 .exact-weights)
 
-exact-1 : setWeight 3 (rateIn chain7) (setOf chain7) 1 ≡ 1
+pub exact-1 : setWeight 3 (rateIn chain7) (setOf chain7) 1 ≡ 1
 unfolding table
 exact-1 = ap (λ (xs : List ℕ). getD xs 1 0) (cases-hold .case-7 .exact-weights)
 
-exact-2 : setWeight 3 (rateIn chain7) (setOf chain7) 2 ≡ 0
+pub exact-2 : setWeight 3 (rateIn chain7) (setOf chain7) 2 ≡ 0
 unfolding table
 exact-2 = ap (λ (xs : List ℕ). getD xs 2 0) (cases-hold .case-7 .exact-weights)
 
-exact-sum : sum 3 (setWeight 3 (rateIn chain7) (setOf chain7)) ≡ 2
+pub exact-sum : sum 3 (setWeight 3 (rateIn chain7) (setOf chain7)) ≡ 2
 unfolding sum
 exact-sum = omega (arith, exact-0, exact-1, exact-2)
 
@@ -62,26 +62,30 @@ share-0 = ap (at 0) (cases-hold .case-7 .shares-are)
 
 -- ---- its only closed set has the states 0 and 1
 
-has-answer-7 : Accepted chain7 × HasAnswer 3 (rateIn chain7)
+pub has-answer-7 : Accepted chain7 × HasAnswer 3 (rateIn chain7)
 unfolding answered oneClosed firstLowest secondLowest isLowest settles all checked rulesChecked startsSound columnsChecked entryBad zerosChecked via rateIn sum
 has-answer-7 = accepted-answer chain7 refl
 
 pub only-7 : OnlyClosed 3 (rateIn chain7) (setOf chain7)
 only-7 = answer-set chain7 (has-answer-7 .0 .sound) (has-answer-7 .1)
 
+pub inside-7 : setOf chain7 0 ≡ true
+unfolding setOf lowestSet firstLowest isLowest settles all via rateIn sum
+inside-7 = refl
+
 pub outside-7 : setOf chain7 2 ≡ false
 unfolding setOf lowestSet firstLowest isLowest settles all via rateIn sum
 outside-7 = refl
 
-size-7 : size 3 (setOf chain7) ≡ 2
+pub size-7 : size 3 (setOf chain7) ≡ 2
 unfolding size setOf lowestSet firstLowest isLowest settles all via rateIn sum count
 size-7 = refl
 
-last-7 : last 3 (setOf chain7) ≡ 1
+pub last-7 : last 3 (setOf chain7) ≡ 1
 unfolding last member size setOf lowestSet firstLowest isLowest settles all via rateIn sum count
 last-7 = refl
 
-words-7 : (p : ℕ) → getD (chain7 .rates) p 0 < 4294967296
+pub words-7 : (p : ℕ) → getD (chain7 .rates) p 0 < 4294967296
 words-7 = elim [ zero ↦ lit< tt | suc zero ↦ lit< tt | suc (suc zero) ↦ lit< tt | suc (suc (suc p)) ↦ lit< tt ]
 
 pub in-range-7 : AllInside chain7
@@ -109,7 +113,7 @@ ones-not-balanced b = absurd (omega (arith, balanced-7 (λ i. 1) b .1))
 
 -- ---- demand 3, with K(2) = 8
 
-count-7 : countOf chain7 ≡ 8
+pub count-7 : countOf chain7 ≡ 8
 unfolding countOf setSize
 count-7 = ap boundCount size-7 ∙ cases-hold .case-8 .1
 

@@ -3,19 +3,20 @@
 use mathlib.Core.List.{List, [], _∷_}
 use mathlib.Core.Logic.{_≢_}
 use mathlib.Core.Path.{_≡_, refl, ap, _∙_}
-use Prim.Native.Nat.{ℕ, zero, suc, _*_, _<_}
+use Prim.Native.Nat.{ℕ, zero, suc, _*_, _^_, _<_, _≤_}
+use native.Mathlib.Nat.{mul-le-mul-left, mul-pos, one-le-pow}
 use native.Mathlib.Omega.{arith}
-use lib.Dec.{lit<}
+use lib.Dec.{lit<, lit≤}
 use lib.ListN.{getD}
 use Rattle.basics.specs.Sum.{sum}
 use Rattle.basics.specs.Below.{count, all}
 use Rattle.basics.specs.Near.{Near}
 use Rattle.scaled.specs.declared.Scaled.{Scaled}
 use Rattle.scaled.specs.Scaled.{zeroNumber}
-use Rattle.scaled.specs.Units.{val, one, factor}
+use Rattle.scaled.specs.Units.{oneNumber, val, one, factor}
 use Rattle.markov.specs.Chain.{Balances}
 use Rattle.markov.specs.Closed.{HasAnswer, OnlyClosed, size, member, last, setWeight}
-use Rattle.markov.specs.Elimination.{pivotOf}
+use Rattle.markov.specs.Elimination.{total, pivotOf, weights}
 use Rattle.markov.specs.Count.{boundCount}
 use Rattle.chain.specs.Rules.{startsSound, entryBad, columnsChecked, rulesChecked, zerosChecked, checked}
 use Rattle.chain.specs.Sound.{Accepted}
@@ -27,6 +28,7 @@ use Rattle.reach.proofs.AnswerLaws.{accepted-answer, answer-set}
 use Rattle.kernel.specs.Numbers.{ops, stage}
 use Rattle.solver.specs.Solve.{setSize, setEntries, weightsOf, sharesOf, countOf, Balancing, Accurate, AllInside}
 use Rattle.basics.specs.Lists.{table}
+use Rattle.scaled.proofs.Laws as laws
 use Rattle.solver.proofs.Demands.{balancing, accurate}
 use Rattle.solver.proofs.Ranges.{all-fit, in-range}
 use Rattle.worked.specs.Table.{chain2, scaled, minus}
@@ -76,21 +78,26 @@ has-answer-2 = accepted-answer chain2 refl
 pub only-2 : OnlyClosed 2 (rateIn chain2) (setOf chain2)
 only-2 = answer-set chain2 (has-answer-2 .0 .sound) (has-answer-2 .1)
 
-size-2 : size 2 (setOf chain2) ≡ 2
+pub size-2 : size 2 (setOf chain2) ≡ 2
 unfolding size setOf lowestSet firstLowest isLowest settles all via rateIn sum count
 size-2 = refl
 
-last-2 : last 2 (setOf chain2) ≡ 1
+pub last-2 : last 2 (setOf chain2) ≡ 1
 unfolding last member size setOf lowestSet firstLowest isLowest settles all via rateIn sum count
 last-2 = refl
 
-words-2 : (p : ℕ) → getD (chain2 .rates) p 0 < 4294967296
+pub words-2 : (p : ℕ) → getD (chain2 .rates) p 0 < 4294967296
 words-2 = elim [ zero ↦ lit< tt | suc zero ↦ lit< tt | suc (suc p) ↦ lit< tt ]
 
 -- ---- R-7
 
 pub in-range-2 : AllInside chain2
 in-range-2 = in-range (has-answer-2 .0 .sound) words-2 (only-2 .closed)
+
+-- the sum of its weights is not Zero
+pub total-weight-2 : total ops 2 (weights ops 1 (setEntries chain2)) ≢ zeroNumber
+unfolding setSize
+total-weight-2 = rw size-2 at (in-range-2 .total-weight)
 
 -- the pivot of its one step is the rate 3, which is not Zero
 pub pivot-2 : pivotOf ops 1 (stage 2 0 (setEntries chain2)) ≢ zeroNumber
@@ -101,6 +108,10 @@ pivot-2 = rw size-2 at (in-range-2 .pivots 0 (omega (arith, size-2)))
 
 pub balancing-2 : Balancing 2 (rateIn chain2) (setOf chain2)
 balancing-2 = balancing 2 (rateIn chain2) only-2
+
+-- its exact weights balance it
+pub weights-balance-2 : Balances 2 (rateIn chain2) (setWeight 2 (rateIn chain2) (setOf chain2))
+weights-balance-2 = balancing-2 .balances
 
 -- 1 and 3 balance the chain
 pub balances-2 : Balances 2 (rateIn chain2) (λ i. getD (1 ∷ 3 ∷ []) i 0)
@@ -124,12 +135,16 @@ equal-weights-2 b = absurd (omega (arith, proportion-2 (λ i. 1) b))
 
 -- ---- demand 3, with K(2) = 8
 
-count-2 : countOf chain2 ≡ 8
+pub count-2 : countOf chain2 ≡ 8
 unfolding countOf setSize
 count-2 = ap boundCount size-2 ∙ cases-hold .case-8 .1
 
 pub accurate-2 : Accurate 2 (rateIn chain2) (setOf chain2) 8 (weightsOf chain2) (sharesOf chain2)
 accurate-2 = rw count-2 at (accurate chain2 (only-2 .closed) (all-fit (has-answer-2 .0 .sound) words-2 (only-2 .closed)))
+
+-- the last weight is 1
+pub last-weight-2 : weightsOf chain2 1 ≡ oneNumber
+last-weight-2 = rw last-2 at (accurate-2 .last-weight)
 
 -- the computed weights lie within 8 factors of 1 / 3 and 3 / 3
 pub weight-0-near : Near factor 8 (val (scaled 2863311531 (minus 33)) * 3) (one * 1)
@@ -144,3 +159,22 @@ share-0-near = rw (size-2, share-0, exact-0, exact-sum) at (accurate-2 .shares 0
 
 pub share-1-near : Near factor 18 (val (scaled 3221225472 (minus 32)) * 4) (one * 3)
 share-1-near = rw (size-2, share-1, exact-1, exact-sum) at (accurate-2 .shares 1 (omega arith))
+
+-- demand 3 alone shuts out equal weights, since 1 is not within 8 factors of 1 / 3, and results that are all Zero
+some-units : 0 < one * factor .den ^ 8
+some-units = mul-pos laws.one-pos (one-le-pow 8 (factor .den) (factor .den-pos))
+
+pub equal-weights-far-2 : {s : ℕ → Scaled} → Accurate 2 (rateIn chain2) (setOf chain2) 8 (λ i. oneNumber) s → ⊥
+equal-weights-far-2 a = omega (arith, near, two, some-units)
+  where
+    near : one * 3 * factor .den ^ 8 ≤ one * 1 * factor .num ^ 8
+    near = (rw (last-2, exact-0, exact-1, laws.one-value) at (a .weights 0 (omega arith))) .under .bound
+
+    two : one * factor .num ^ 8 ≤ one * (2 * factor .den ^ 8)
+    two = mul-le-mul-left one (laws.factor-mild 8 (lit≤ tt) .at-most-2)
+
+pub zero-weights-far-2 : {s : ℕ → Scaled} → Accurate 2 (rateIn chain2) (setOf chain2) 8 (λ i. zeroNumber) s → ⊥
+zero-weights-far-2 a = omega (arith, far, some-units)
+  where
+    far : one * 1 * factor .den ^ 8 ≤ 0 * 3 * factor .num ^ 8
+    far = (rw (last-2, exact-0, exact-1, laws.zero-value) at (a .weights 0 (omega arith))) .over .bound

@@ -27,6 +27,7 @@ use Rattle.reach.specs.ClosedSets.{settles, isLowest, firstLowest, secondLowest
 use Rattle.reach.specs.Answer.{oneClosed, answered, setOf}
 use Rattle.reach.proofs.AnswerLaws.{accepted-answer, answer-set}
 use Rattle.kernel.specs.Numbers.{plus, times, dividedBy}
+use Rattle.solver.specs.Lent.{enough}
 use Rattle.solver.specs.Solve.{entries, setSize, weightsOf, sharesOf, countOf, solved, Accurate}
 use Rattle.solver.proofs.Demands.{accurate}
 use Rattle.solver.proofs.Ranges.{all-fit, in-range}
@@ -37,14 +38,29 @@ use Rattle.worked.specs.Table.{chain3, scaled, minus}
 use Rattle.worked.specs.Groups.{table3, GroupCases}
 
 pub group-cases-hold : GroupCases
-unfolding groupsSolved groupSharesOf groupWeight tableChecked rowBad holders groupOf picked
+unfolding enough groupsSolved groupSharesOf groupWeight tableChecked rowBad holders groupOf picked
     solved table weightsOf sharesOf entries setSize countOf plus times dividedBy oneNumber
     elimination.weights elimination.shares elimination.total elimination.pivotOf elimination.quotientAt elimination.next
     bitLengthUpTo bitLength isScaledAt upward carried nearest roundedSum roundedProduct roundedQuotient converted isScaled sumOf productOf quotientOf rateOf
     weight over sum prod count put leads led all moves boundCount
     size member alone spread setWeight setWeights setShares
     checked rulesChecked startsSound columnsChecked entryBad zerosChecked rateIn answered oneClosed setOf lowestSet firstLowest secondLowest isLowest settles via
-group-cases-hold = record { accepted = refl; groups-are = refl; exact-3 = refl; exact-15 = refl; exact-0 = refl; accepted-7 = refl; groups-are-7 = refl; exact-9 = refl; exact-4 = refl }
+group-cases-hold = record {
+  sixteen = refl;
+  fifteen-m = refl;
+  fifteen-e = refl;
+  order-13-5 = refl;
+  order-14-13 = refl;
+  accepted = refl;
+  groups-are = refl;
+  exact-3 = refl;
+  exact-15 = refl;
+  exact-0 = refl;
+  accepted-7 = refl;
+  groups-are-7 = refl;
+  exact-9 = refl;
+  exact-4 = refl;
+}
 
 -- ---- what the theorem asks
 
@@ -52,7 +68,7 @@ has-answer-3 : Accepted chain3 × HasAnswer 3 (rateIn chain3)
 unfolding answered oneClosed firstLowest secondLowest isLowest settles all checked rulesChecked startsSound columnsChecked entryBad zerosChecked via rateIn sum
 has-answer-3 = accepted-answer chain3 refl
 
-only-3 : OnlyClosed 3 (rateIn chain3) (setOf chain3)
+pub only-3 : OnlyClosed 3 (rateIn chain3) (setOf chain3)
 only-3 = answer-set chain3 (has-answer-3 .0 .sound) (has-answer-3 .1)
 
 words-3 : (p : ℕ) → getD (chain3 .rates) p 0 < 4294967296
@@ -70,7 +86,7 @@ groups-accurate-3 = groups-accurate chain3 table3 28 (only-3 .closed) (in-range 
 
 -- ---- and what it says: within 2 × 28 + 2 × 3 factors of 48 / 56 and 8 / 56
 
-exact-sum : sum 3 (setWeight 3 (rateIn chain3) (setOf chain3)) ≡ 56
+pub exact-sum : sum 3 (setWeight 3 (rateIn chain3) (setOf chain3)) ≡ 56
 unfolding weight over sum prod count put leads led all moves size member alone spread setWeight setOf lowestSet firstLowest isLowest settles via rateIn
 exact-sum = refl
 

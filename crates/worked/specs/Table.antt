@@ -1,6 +1,7 @@
 -- Document 01, "Chains worked on paper (those marked * go in the proved table)": the single table of the starred cases, 1 to 9, with
--- cases 6 and 7 and the example of refusal 6 as R-3 has them; two rows more for R-3, with states outside the set and with two sets, and one
--- for R-6, case 2 beside itself; and what its rows say, over the definitions that the contracts of the calls cite. `cases-hold` in proofs/Cases.antt proves it.
+-- cases 6 and 7 and the example of refusal 6 as R-3 and R-5 have them; two rows more for R-3, with states outside the set and with two sets, one
+-- for R-6, case 2 beside itself, one whose bits tell the order of the operations, two of stored rates and maps of several bytes, and refusal 5 with
+-- its place in the order; and what its rows say, over the definitions that the contracts of the calls cite. `cases-hold` in proofs/Cases.antt proves it.
 use mathlib.Core.List.{List, [], _∷_}
 use mathlib.Core.Path.{_≡_}
 use Prim.Native.Nat.{ℕ, _+_, _*_}
@@ -120,11 +121,26 @@ chainTraps = rows 5 (0 ∷ 2 ∷ 3 ∷ 4 ∷ 4 ∷ 5 ∷ []) (1 ∷ 3 ∷ 2 ∷ 
 abbrev pub chain22 : Rows
 chain22 = rows 4 (0 ∷ 2 ∷ 4 ∷ 6 ∷ 8 ∷ []) (1 ∷ 2 ∷ 0 ∷ 3 ∷ 0 ∷ 3 ∷ 1 ∷ 2 ∷ []) (3 ∷ 3 ∷ 1 ∷ 3 ∷ 1 ∷ 3 ∷ 1 ∷ 1 ∷ [])
 
+-- four states with every move: where a sum is taken falling, entry × entry / s stands for entry × t(j), or (entry / s) × entry, a bit of the results is another
+abbrev pub chainOrder : Rows
+chainOrder = rows 4 (0 ∷ 3 ∷ 6 ∷ 9 ∷ 12 ∷ []) (1 ∷ 2 ∷ 3 ∷ 0 ∷ 2 ∷ 3 ∷ 0 ∷ 1 ∷ 3 ∷ 0 ∷ 1 ∷ 2 ∷ []) (3 ∷ 4294967294 ∷ 2 ∷ 3 ∷ 2 ∷ 2 ∷ 9 ∷ 5 ∷ 5 ∷ 2 ∷ 3 ∷ 1 ∷ [])
+
+-- two states, the rate from 0 to 1 stored as 01 02 03 04, that back as 05 06 07 08
+abbrev pub chainBytes : Rows
+chainBytes = rows 2 (0 ∷ 1 ∷ 2 ∷ []) (1 ∷ 0 ∷ []) (67305985 ∷ 134678021 ∷ [])
+
+abbrev pub storedBytes : List ℕ
+storedBytes = 2 ∷ 2 ∷ 1 ∷ 2 ∷ 3 ∷ 4 ∷ 1 ∷ 5 ∷ 6 ∷ 7 ∷ 8 ∷ []
+
 -- "02 02 03 00 00 00 01 01 00 00 00", whose printed lines case 2 refers to
 abbrev pub printed : List ℕ
 printed = 2 ∷ 2 ∷ 3 ∷ 0 ∷ 0 ∷ 0 ∷ 1 ∷ 1 ∷ 0 ∷ 0 ∷ 0 ∷ []
 
 -- ---- the table
+
+-- solving refuses case 2 by 5 where the lent slices have so many places: m and e for work, then for weights, then for shares
+abbrev pub Short : ℕ → ℕ → ℕ → ℕ → ℕ → ℕ → Type 0
+Short m e wm we sm se = solved chain2 (enough 2 m e wm we sm se) ≡ refuses of-chain (numbered 5 0 0)
 
 pub record Cases : Type 0 where
   -- "weight 1, that is (2147483648, -31); share the same"
@@ -161,6 +177,17 @@ pub record Cases : Type 0 where
   pub case-2-twice : Solves chain22 64 (8 ∷ 24 ∷ 24 ∷ 72 ∷ [])
       (scaled 3817748707 (minus 35) ∷ scaled 2863311530 (minus 33) ∷ scaled 2863311531 (minus 33) ∷ scaled 2147483648 (minus 31) ∷ [])
       (scaled 4294967295 (minus 36) ∷ scaled 3221225471 (minus 34) ∷ scaled 3221225472 (minus 34) ∷ scaled 2415919104 (minus 32) ∷ [])
+  pub order-of-operations : Solves chainOrder 64 (549 ∷ 193273528681 ∷ 154618822652 ∷ 193273528620 ∷ [])
+      (scaled 3274912559 (minus 60) ∷ scaled 2147483649 (minus 31) ∷ scaled 3435973832 (minus 32) ∷ scaled 2147483648 (minus 31) ∷ [])
+      (scaled 2339223254 (minus 61) ∷ scaled 3067833781 (minus 33) ∷ scaled 2454267021 (minus 33) ∷ scaled 3067833780 (minus 33) ∷ [])
+  -- "four bytes each, low byte first"; maps of two bytes are evaluated in crates `layout` and `checking`
+  pub bytes-stored : Stores storedBytes chainBytes
+  -- 5: "n = 2, one place for weights", and one place less in each of the other slices
+  pub refusal-5 : Short 4 4 1 2 2 2
+  pub other-slices : Short 3 4 2 2 2 2 × Short 4 3 2 2 2 2 × Short 4 4 2 1 2 2 × Short 4 4 2 2 1 2 × Short 4 4 2 2 2 1
+  -- "Solving tries 1 to 7 in that order", with 14 "straight after 4": 14 comes before 5, and 5 before 6
+  pub order-14-5 : solved chain6 (enough 2 3 4 2 2 2 2) ≡ refuses of-chain (numbered 14 0 1)
+  pub order-5-6 : solved chain0 (enough 2 4 4 2 2 2 1) ≡ refuses of-chain (numbered 5 0 0)
   -- "its example becomes n = 2 without entries, (0, 1)"
   pub refusal-6 : Refuses chain0 (numbered 6 0 1)
   pub traps : Refuses chainTraps (numbered 6 1 3)

@@ -9,7 +9,7 @@ returns : tie.Need-returns
 returns c =
     let d = c .before .before .before in
     let d₂ = d .before .before .before .before .before in
-    rw (← d₂ .before .before .wide .ensures) (entry-put (d₂ .if1 .taken) (put-value (d .put .ensures) (d .before .from-rate .ensures)))
+    rw (← d₂ .before .before .wide .ensures) (entry-put (d₂ .if1 .taken) (put-value (d .put .ensures) (d .before .from-rate .ensures .number-is)))
 
 returns-2 : tie.Need-returns-2
 returns-2 c = rw (← c .before .before .wide .ensures) (entry-none _ (c .if1 .left))

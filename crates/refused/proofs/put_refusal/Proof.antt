@@ -14,7 +14,7 @@ returns : tie.Need-returns
 returns c =
     let line = c .before .before .before .before .listed .result in
     let put = c .before .before .put-refused .ensures in
-    rw (← c .before .before .before .before .listed .ensures) (put, omega (arith, put .next-is, refused-length line (search needs) (search needs) (search needs)))
+    rw (← c .before .before .before .before .listed .ensures .line-is) (put, omega (arith, put .next-is, refused-length line (search needs) (search needs) (search needs)))
 
 pub put-refusal-spec : {M : Type 1} → statement M
 put-refusal-spec =

@@ -11,7 +11,7 @@ use Rattle.telling.proofs.tell_part.Tie as tie
 returns : tie.Need-returns
 returns c =
     let k = c .before .before .before in
-    let l = k .before .before .listed .ensures in
+    let l = k .before .before .listed .ensures .line-is in
     let args = k .before .before .before .before .args in
     record {
       returned = ap (λ (x : Line). x .number) l;
