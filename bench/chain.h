@@ -1,4 +1,4 @@
-/* Reads a sound stored chain from standard input and keeps its one closed set, as a chain of its own. */
+/* Reads a sound stored chain of form 1 from standard input and keeps its one closed set, as a chain of its own. */
 #include <stdint.h>
 #include <stdio.h>
 #include <stdlib.h>

@@ -103,7 +103,7 @@ pub struct Chain {
 }
 
 impl Chain {
-    /// Reads a stored chain.
+    /// Reads a stored chain of form 1.
     pub fn read(mut bytes: impl Read) -> io::Result<Chain> {
         let mut order = [0];
         bytes.read_exact(&mut order)?;

@@ -1,4 +1,4 @@
-/* The stall calculator, for C: five calls, each proved (crates/stall in the repository).
+/* The stall calculator, for C: six calls, each proved (crates/stall in the repository).
  *
  * Link with target/staticlib/libstall.a, which `rt staticlib stall` writes for x86-64 Linux.
  *
@@ -16,7 +16,8 @@
  *
  * The returned number is 0 (accepted), or the number of the first refusal that applies. docs/FORMAT.md in the repository has, for each
  * number, what it means and its two places ("The refusals"), and for each call which it tries, in which order ("The order"); a call here
- * tries what the call of the same name without "stall_" does. From stall_read the bytes are at fault, from every other call the chain.
+ * tries what the call of the same name without "stall_" does, stall_write_short what write does. From stall_read the bytes are at fault,
+ * from every other call the chain.
  * After a refusal all lent memory is unchanged, the answer slice apart.
  *
  * The answer slice. Where it has three places or more, four or more for stall_join, the first three or four are written, always:
@@ -38,8 +39,9 @@ extern "C" {
 #endif
 
 #define STALL_MAX_ORDER 64
-#define STALL_MAX_ENTRIES 4032 /* 64 * 63 */
-#define STALL_MAX_BYTES 16641  /* 1 + 64 * 8 + 4 * 4032 */
+#define STALL_MAX_ENTRIES 4032       /* 64 * 63 */
+#define STALL_MAX_BYTES 17153        /* of a stored chain, in either form: 1 + 2 * 64 * 8 + 4 * 4032 */
+#define STALL_MAX_BYTES_FORM_1 16641 /* in form 1: 1 + 64 * 8 + 4 * 4032 */
 #define STALL_GROUPS 16
 
 #define STALL_CHAIN 0
@@ -55,6 +57,7 @@ extern "C" {
 #define STALL_SOLVE_GROUPS_STACK 5120
 #define STALL_READ_STACK 1024
 #define STALL_WRITE_STACK 1024
+#define STALL_WRITE_SHORT_STACK 1024
 #define STALL_JOIN_STACK 1024
 
 /* A chain of order n in rows (compressed sparse rows, places from 0, no diagonal).
@@ -114,12 +117,15 @@ uint32_t stall_solve_groups(size_t n,
                             int32_t *group_e, size_t group_e_length,
                             size_t *answer, size_t answer_length);
 
-/* Reads a stored chain: one byte n; then for each row a map of (n + 7) / 8 bytes, bit j in byte j / 8, lowest bit first, and
- * the rates whose bit stands, four bytes each, low byte first.
+/* Reads a stored chain of either form, which its first byte tells.
+ *   form 1    one byte n; then for each row a map of (n + 7) / 8 bytes, bit j in byte j / 8, lowest bit first, and the rates whose bit
+ *             stands, columns rising, four bytes each, low byte first
+ *   form 2    one byte 128 + n; then for each row its map, a second map of as many bytes, in which the bits of the rates below 65,536
+ *             stand and no others, and the rates, two bytes each where that bit stands and four where not
  *   needs     starts: n + 1 places; columns and rates: one place for each entry (STALL_MAX_ORDER + 1 and STALL_MAX_ENTRIES
  *             always do); places beyond keep what they held
- *   after 0   the chain stands in the three slices; answer[0] is n, answer[1] the number of entries, answer[2] is 0. To solve or
- *             to write it, pass n + 1 starts and answer[1] columns and rates
+ *   after 0   the chain stands in the three slices; answer[0] is n, answer[1] the number of entries, answer[2] the form, 1 or 2. To solve
+ *             or to write it, pass n + 1 starts and answer[1] columns and rates
  *   after a refusal  the three slices are unchanged */
 uint32_t stall_read(const uint8_t *bytes, size_t bytes_length,
                     uint32_t *starts, size_t starts_length,
@@ -127,8 +133,8 @@ uint32_t stall_read(const uint8_t *bytes, size_t bytes_length,
                     uint32_t *rates, size_t rates_length,
                     size_t *answer, size_t answer_length);
 
-/* Stores a chain. A chain without an answer (refusal 6 of solving) is stored too.
- *   needs     out: 1 + n * ((n + 7) / 8) + 4 * (entries) bytes (STALL_MAX_BYTES always do); bytes beyond keep what they held
+/* Stores a chain in form 1. A chain without an answer (refusal 6 of solving) is stored too.
+ *   needs     out: 1 + n * ((n + 7) / 8) + 4 * (entries) bytes (STALL_MAX_BYTES_FORM_1 always do); bytes beyond keep what they held
  *   after 0   the file stands in the first answer[0] bytes of out; answer[1] and answer[2] are 0
  *   after a refusal  out is unchanged */
 uint32_t stall_write(size_t n,
@@ -137,6 +143,19 @@ uint32_t stall_write(size_t n,
                      const uint32_t *rates, size_t rates_length,
                      uint8_t *out, size_t out_length,
                      size_t *answer, size_t answer_length);
+
+/* Stores a chain in form 2, and is as stall_write in all else. Where 2 * (rates below 65,536) is below n * ((n + 7) / 8), the file is
+ * longer than that of form 1.
+ *   needs     out: 1 + 2 * n * ((n + 7) / 8) + 2 * (rates below 65,536) + 4 * (other rates) bytes (STALL_MAX_BYTES always do); bytes
+ *             beyond keep what they held
+ *   after 0   the file stands in the first answer[0] bytes of out; answer[1] and answer[2] are 0
+ *   after a refusal  out is unchanged */
+uint32_t stall_write_short(size_t n,
+                           const uint32_t *starts, size_t starts_length,
+                           const uint32_t *columns, size_t columns_length,
+                           const uint32_t *rates, size_t rates_length,
+                           uint8_t *out, size_t out_length,
+                           size_t *answer, size_t answer_length);
 
 /* Joins the chains of two stations side by side, of orders n1 and n2, into one chain of order n1 * n2: its state i * n2 + j has the
  * first in state i and the second in state j. One of the two moves at a time, with its own rate. The two may be one chain, lent by the

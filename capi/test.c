@@ -1,4 +1,4 @@
-/* Tests of the five exported calls from C. Exits 0 if all hold, and says which do not. */
+/* Tests of the six exported calls from C. Exits 0 if all hold, and says which do not. */
 #define _XOPEN_SOURCE 700 /* for ucontext.h, in test_stack.h */
 #include "test_memory.h"
 
@@ -14,15 +14,14 @@ static const uint32_t columns7[] = {1, 0, 0}, rates7[] = {1, 1, 1};
 
 #include "test_zero_rates.h"
 #include "test_join.h"
+#include "test_forms.h"
 #include "test_stack.h"
 
 static void read_solve_write(void)
 {
     CHECK(read_fresh(case2, sizeof case2) == 0);
-    CHECK(answer_is(2, 2, 0));
-    CHECK(memcmp(starts, starts2, sizeof starts2) == 0 && all_marked(starts, sizeof starts2, sizeof starts));
-    CHECK(memcmp(columns, columns2, sizeof columns2) == 0 && all_marked(columns, sizeof columns2, sizeof columns));
-    CHECK(memcmp(rates, rates2, sizeof rates2) == 0 && all_marked(rates, sizeof rates2, sizeof rates));
+    CHECK(answer_is(2, 2, 1));
+    CHECK(chain_is(2, 2, starts2, columns2, rates2));
 
     CHECK(solve_fresh(2, starts2, 3, columns2, 2, rates2, 2) == 0);
     CHECK(answer_is(8, 0, 0));
@@ -30,7 +29,7 @@ static void read_solve_write(void)
 
     CHECK(write_fresh(2, starts2, 3, columns2, 2, rates2, 2) == 0);
     CHECK(answer_is(sizeof case2, 0, 0));
-    CHECK(memcmp(out, case2, sizeof case2) == 0 && all_marked(out, sizeof case2, sizeof out));
+    CHECK(file_is(case2, sizeof case2));
 }
 
 static void groups(void)
@@ -253,14 +252,14 @@ static void short_answers(void)
         }
     }
     mark();
-    CHECK(stall_read(case2, sizeof case2, starts, 3, columns, 2, rates, 2, answer, 3) == 0 && answer_is(2, 2, 0));
+    CHECK(stall_read(case2, sizeof case2, starts, 3, columns, 2, rates, 2, answer, 3) == 0 && answer_is(2, 2, 1));
 }
 
 /* Case 10: order 64, every rate 1, stored, read, solved, and solved with a row for each state, four states a group. */
 static void largest(void)
 {
     static uint32_t s[65], c[STALL_MAX_ENTRIES], r[STALL_MAX_ENTRIES], t[3 * 64];
-    static uint8_t file[STALL_MAX_BYTES];
+    static uint8_t file[STALL_MAX_BYTES_FORM_1];
     size_t k = 0;
     for (uint32_t i = 0; i < 64; i++) {
         for (uint32_t j = 0; j < 64; j++)
@@ -272,9 +271,9 @@ static void largest(void)
         t[3 * i] = t[3 * i + 1] = 63 - i;
         t[3 * i + 2] = i % 16;
     }
-    CHECK(write_fresh(64, s, 65, c, k, r, k) == 0 && answer_is(STALL_MAX_BYTES, 0, 0));
+    CHECK(write_fresh(64, s, 65, c, k, r, k) == 0 && answer_is(sizeof file, 0, 0));
     memcpy(file, out, sizeof file);
-    CHECK(read_fresh(file, sizeof file) == 0 && answer_is(64, STALL_MAX_ENTRIES, 0));
+    CHECK(read_fresh(file, sizeof file) == 0 && answer_is(64, STALL_MAX_ENTRIES, 1));
     CHECK(memcmp(starts, s, sizeof s) == 0 && memcmp(columns, c, sizeof c) == 0 && memcmp(rates, r, sizeof r) == 0);
     CHECK(solve_fresh(64, s, 65, c, k, r, k) == 0 && answer_is(182784, 0, 0) && all_zero(work_m, sizeof work_m));
     for (int i = 0; i < 64; i++) /* each share is 1/64 */
@@ -341,6 +340,12 @@ int main(void)
     join_refusals();
     join_room();
     join_short_answers();
+    both_forms();
+    seeded_forms();
+    longest_forms();
+    form_refusals();
+    write_refusals();
+    form_short_answers();
     short_buffers();
     short_answers();
     largest();

@@ -32,14 +32,6 @@ static int join_answer_is(size_t first, size_t second, size_t side, size_t part)
     return answer[0] == first && answer[1] == second && answer[2] == side && answer[3] == part && all_marked(answer + 4, 0, sizeof answer[4]);
 }
 
-/* The joint chain stands in the slices, and every place beyond it is as it was. */
-static int joint_is(size_t n, size_t entries, const uint32_t *s, const uint32_t *c, const uint32_t *r)
-{
-    return memcmp(starts, s, 4 * (n + 1)) == 0 && all_marked(starts, 4 * (n + 1), sizeof starts)
-        && memcmp(columns, c, 4 * entries) == 0 && all_marked(columns, 4 * entries, sizeof columns)
-        && memcmp(rates, r, 4 * entries) == 0 && all_marked(rates, 4 * entries, sizeof rates);
-}
-
 /* Case 2 beside itself, through the same pointers, and beside case 3. The first is then solved and stored. */
 static void joins(void)
 {
@@ -48,8 +40,8 @@ static void joins(void)
     static const uint32_t r6[] = {2, 3, 4, 3, 8, 3, 1, 2, 1, 4, 1, 8};
     static const uint8_t file[] = {4, 6, 3, 0, 0, 0, 3, 0, 0, 0, 9, 1, 0, 0, 0, 3, 0, 0, 0, 9, 1, 0, 0, 0, 3, 0, 0, 0, 6, 1, 0, 0, 0, 1, 0, 0, 0};
 
-    CHECK(join_fresh(&two, &two) == 0 && join_answer_is(8, 0, 0, 0) && joint_is(4, 8, s4, c4, r4));
-    CHECK(join_fresh(&two, &ring) == 0 && join_answer_is(12, 0, 0, 0) && joint_is(6, 12, s6, c6, r6));
+    CHECK(join_fresh(&two, &two) == 0 && join_answer_is(8, 0, 0, 0) && chain_is(4, 8, s4, c4, r4));
+    CHECK(join_fresh(&two, &ring) == 0 && join_answer_is(12, 0, 0, 0) && chain_is(6, 12, s6, c6, r6));
     CHECK(solve_fresh(4, s4, 5, c4, 8, r4, 8) == 0 && answer_is(64, 0, 0) && solved_in_place(4));
     /* 1/16, 3/16, 3/16 and 9/16, the first two rounded on the way; where rounding leaves them is known from the model in tests/. */
     CHECK(share_m[0] == 4294967295u && share_e[0] == -36 && share_m[1] == 3221225471u && share_e[1] == -34);
@@ -67,12 +59,12 @@ static void joint_edges(void)
     struct part full = {64, s, 65, c, STALL_MAX_ENTRIES, r, STALL_MAX_ENTRIES}, eight = {8, s, 9, c, 56, r, 56};
     size_t k = 0;
 
-    CHECK(join_fresh(&one, &one) == 0 && join_answer_is(0, 0, 0, 0) && joint_is(1, 0, none, none, none));
-    CHECK(join_fresh(&one, &ring) == 0 && join_answer_is(3, 0, 0, 0) && joint_is(3, 3, starts3, columns3, rates3));
-    CHECK(join_fresh(&ring, &one) == 0 && join_answer_is(3, 0, 0, 0) && joint_is(3, 3, starts3, columns3, rates3));
-    CHECK(join_fresh(&apart, &apart) == 0 && join_answer_is(0, 0, 0, 0) && joint_is(4, 0, none, none, none));
-    CHECK(join_fresh(&apart, &two) == 0 && join_answer_is(4, 0, 0, 0) && joint_is(4, 4, s2, c2, r2));
-    CHECK(join_fresh(&two, &apart) == 0 && join_answer_is(4, 0, 0, 0) && joint_is(4, 4, s2, c2_other, r2_other));
+    CHECK(join_fresh(&one, &one) == 0 && join_answer_is(0, 0, 0, 0) && chain_is(1, 0, none, none, none));
+    CHECK(join_fresh(&one, &ring) == 0 && join_answer_is(3, 0, 0, 0) && chain_is(3, 3, starts3, columns3, rates3));
+    CHECK(join_fresh(&ring, &one) == 0 && join_answer_is(3, 0, 0, 0) && chain_is(3, 3, starts3, columns3, rates3));
+    CHECK(join_fresh(&apart, &apart) == 0 && join_answer_is(0, 0, 0, 0) && chain_is(4, 0, none, none, none));
+    CHECK(join_fresh(&apart, &two) == 0 && join_answer_is(4, 0, 0, 0) && chain_is(4, 4, s2, c2, r2));
+    CHECK(join_fresh(&two, &apart) == 0 && join_answer_is(4, 0, 0, 0) && chain_is(4, 4, s2, c2_other, r2_other));
     for (uint32_t i = 0; i < 64; i++) {
         for (uint32_t j = 0; j < 64; j++)
             if (j != i) {
@@ -81,8 +73,8 @@ static void joint_edges(void)
             }
         s[i + 1] = (uint32_t)k;
     }
-    CHECK(join_fresh(&one, &full) == 0 && join_answer_is(STALL_MAX_ENTRIES, 0, 0, 0) && joint_is(64, STALL_MAX_ENTRIES, s, c, r));
-    CHECK(join_fresh(&full, &one) == 0 && join_answer_is(STALL_MAX_ENTRIES, 0, 0, 0) && joint_is(64, STALL_MAX_ENTRIES, s, c, r));
+    CHECK(join_fresh(&one, &full) == 0 && join_answer_is(STALL_MAX_ENTRIES, 0, 0, 0) && chain_is(64, STALL_MAX_ENTRIES, s, c, r));
+    CHECK(join_fresh(&full, &one) == 0 && join_answer_is(STALL_MAX_ENTRIES, 0, 0, 0) && chain_is(64, STALL_MAX_ENTRIES, s, c, r));
     /* 8 beside 8, every move, each with a rate of its own: in row 8 * i + j those of the second to 8 * i + l, of the first to 8 * k + j. */
     k = 0;
     for (uint32_t i = 0; i < 8; i++) {
@@ -159,7 +151,7 @@ static void join_room(void)
         struct part a = {orders[i][0], none, orders[i][0] + 1, none, 0, none, 0}, b = {orders[i][1], none, orders[i][1] + 1, none, 0, none, 0};
         uint32_t large = (uint32_t)orders[i][2];
         CHECK(join_fresh(&a, &b) == large && join_answer_is(0, 0, STALL_CHAIN, STALL_JOINT));
-        CHECK(large ? chain_unchanged() : joint_is(a.n * b.n, 0, none, none, none));
+        CHECK(large ? chain_unchanged() : chain_is(a.n * b.n, 0, none, none, none));
         CHECK(join_into(&a, &b, 0, 0, 0, COUNT(answer)) == (large ? 15 : 5) && join_answer_is(0, 0, STALL_CHAIN, STALL_JOINT) && chain_unchanged());
     }
     for (int i = 0; i < 4; i++) {

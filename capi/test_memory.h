@@ -24,7 +24,7 @@ static size_t answer[5];
 static uint32_t starts[STALL_MAX_ORDER + 1], columns[STALL_MAX_ENTRIES], rates[STALL_MAX_ENTRIES];
 static uint32_t work_m[4096], weight_m[64], share_m[64], group_m[STALL_GROUPS + 4];
 static int32_t work_e[4096], weight_e[64], share_e[64], group_e[STALL_GROUPS + 4];
-static uint8_t out[STALL_MAX_BYTES];
+static uint8_t out[STALL_MAX_BYTES + 3];
 
 static int all_marked(const void *memory, size_t from, size_t bytes)
 {
@@ -64,6 +64,20 @@ static void mark(void)
 static int chain_unchanged(void)
 {
     return all_marked(starts, 0, sizeof starts) && all_marked(columns, 0, sizeof columns) && all_marked(rates, 0, sizeof rates);
+}
+
+/* A chain stands in the slices, and every place beyond it is as it was. */
+static int chain_is(size_t n, size_t entries, const uint32_t *s, const uint32_t *c, const uint32_t *r)
+{
+    return memcmp(starts, s, 4 * (n + 1)) == 0 && all_marked(starts, 4 * (n + 1), sizeof starts)
+        && memcmp(columns, c, 4 * entries) == 0 && all_marked(columns, 4 * entries, sizeof columns)
+        && memcmp(rates, r, 4 * entries) == 0 && all_marked(rates, 4 * entries, sizeof rates);
+}
+
+/* A file stands in the buffer, and every byte beyond it is as it was. */
+static int file_is(const uint8_t *file, size_t length)
+{
+    return memcmp(out, file, length) == 0 && all_marked(out, length, sizeof out);
 }
 
 static int results_unchanged(void)
@@ -125,4 +139,10 @@ static uint32_t write_fresh(size_t n, const uint32_t *s, size_t sn, const uint32
 {
     mark();
     return stall_write(n, s, sn, c, cn, r, rn, out, COUNT(out), answer, COUNT(answer));
+}
+
+static uint32_t write_short_fresh(size_t n, const uint32_t *s, size_t sn, const uint32_t *c, size_t cn, const uint32_t *r, size_t rn)
+{
+    mark();
+    return stall_write_short(n, s, sn, c, cn, r, rn, out, COUNT(out), answer, COUNT(answer));
 }

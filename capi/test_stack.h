@@ -4,7 +4,8 @@
 
 static uint8_t stack[65536];
 static uint32_t full_starts[65], full_columns[STALL_MAX_ENTRIES], full_rates[STALL_MAX_ENTRIES], full_table[3 * 64];
-static uint8_t full_file[STALL_MAX_BYTES];
+static uint8_t full_file[STALL_MAX_BYTES_FORM_1], full_short_file[STALL_MAX_BYTES];
+static size_t full_short_length;
 
 static size_t used_by(void (*calls)(void))
 {
@@ -22,7 +23,7 @@ static size_t used_by(void (*calls)(void))
     return sizeof stack - unused;
 }
 
-/* 64 states, every move with a rate of its own, and a row of the table for each state. */
+/* 64 states, every move with a rate of its own, in form 2 of two bytes and of four in turn, and a row of the table for each state. */
 static void fill(void)
 {
     size_t k = 0;
@@ -30,7 +31,7 @@ static void fill(void)
         for (uint32_t j = 0; j < 64; j++)
             if (j != i) {
                 full_columns[k] = j;
-                full_rates[k++] = 64 * i + j + 1;
+                full_rates[k++] = (64 * i + j + 1) << (j % 2 ? 16 : 0);
             }
         full_starts[i + 1] = (uint32_t)k;
         full_table[3 * i] = full_table[3 * i + 1] = i;
@@ -38,6 +39,9 @@ static void fill(void)
     }
     CHECK(write_fresh(64, full_starts, 65, full_columns, k, full_rates, k) == 0);
     memcpy(full_file, out, sizeof full_file);
+    CHECK(write_short_fresh(64, full_starts, 65, full_columns, k, full_rates, k) == 0);
+    full_short_length = answer[0];
+    memcpy(full_short_file, out, sizeof full_short_file);
 }
 
 /* Each: the longest input, one with states outside the closed set or a small one, and refusals. */
@@ -62,6 +66,10 @@ static void reads(void)
     CHECK(read_fresh(full_file, sizeof full_file) == 0);
     CHECK(read_fresh(case2, sizeof case2) == 0);
     CHECK(read_fresh(full_file, sizeof full_file - 1) == 8);
+    CHECK(read_fresh(full_short_file, full_short_length) == 0);
+    CHECK(read_fresh(short2, sizeof short2) == 0);
+    CHECK(read_fresh(full_short_file, full_short_length - 1) == 8);
+    CHECK(read_fresh(loose, sizeof loose) == 16);
 }
 
 static void writes(void)
@@ -69,6 +77,13 @@ static void writes(void)
     CHECK(write_fresh(64, full_starts, 65, full_columns, COUNT(full_columns), full_rates, COUNT(full_rates)) == 0);
     CHECK(write_fresh(2, starts2, 3, columns2, 2, rates2, 2) == 0);
     CHECK(write_fresh(2, starts2, 3, columns2, 2, rates2, 1) == 2);
+}
+
+static void writes_short(void)
+{
+    CHECK(write_short_fresh(64, full_starts, 65, full_columns, COUNT(full_columns), full_rates, COUNT(full_rates)) == 0);
+    CHECK(write_short_fresh(2, starts2, 3, columns2, 2, rates2, 2) == 0);
+    CHECK(write_short_fresh(2, starts2, 3, columns2, 2, rates2, 1) == 2);
 }
 
 static void joins_parts(void)
@@ -104,6 +119,7 @@ static void stack_used(void)
         {"stall_solve_groups", solves_groups, STALL_SOLVE_GROUPS_STACK},
         {"stall_read", reads, STALL_READ_STACK},
         {"stall_write", writes, STALL_WRITE_STACK},
+        {"stall_write_short", writes_short, STALL_WRITE_SHORT_STACK},
         {"stall_join", joins_parts, STALL_JOIN_STACK},
     };
     size_t least;

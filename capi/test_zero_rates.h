@@ -1,6 +1,6 @@
 /* For test.c: a rate of 0 in a chain and in stored bytes, refusal 14. It uses the two states of case 2. */
 
-/* A chain with a fault in it, to solving, solving by group and writing, with enough lent and with nothing: the refusal is the same. */
+/* A chain with a fault in it, to solving, solving by group and writing in both forms, with enough lent and with nothing: the refusal is the same. */
 static int chain_refused(uint32_t number, size_t first, size_t second, size_t n, const uint32_t *s, const uint32_t *c, const uint32_t *r)
 {
     static const uint32_t bad_table[] = {1, 0, 16};
@@ -8,6 +8,7 @@ static int chain_refused(uint32_t number, size_t first, size_t second, size_t n,
     int so = solve_fresh(n, s, n + 1, c, k, r, k) == number && answer_is(first, second, STALL_CHAIN) && results_unchanged();
     so &= groups_fresh(n, s, n + 1, c, k, r, k, bad_table, 3) == number && answer_is(first, second, STALL_CHAIN) && results_unchanged();
     so &= write_fresh(n, s, n + 1, c, k, r, k) == number && answer_is(first, second, STALL_CHAIN) && all_marked(out, 0, sizeof out);
+    so &= write_short_fresh(n, s, n + 1, c, k, r, k) == number && answer_is(first, second, STALL_CHAIN) && all_marked(out, 0, sizeof out);
     mark();
     so &= stall_solve(n, s, n + 1, c, k, r, k, work_m, 0, work_e, 0, weight_m, 0, weight_e, 0, share_m, 0, share_e, 0, answer, 4) == number
         && answer_is(first, second, STALL_CHAIN) && results_unchanged();
@@ -15,6 +16,9 @@ static int chain_refused(uint32_t number, size_t first, size_t second, size_t n,
     so &= stall_solve_groups(n, s, n + 1, c, k, r, k, bad_table, 3, work_m, 0, work_e, 0, weight_m, 0, weight_e, 0, share_m, 0, share_e, 0,
                              group_m, 0, group_e, 0, answer, 2) == number
         && all_marked(answer, 0, sizeof answer) && results_unchanged();
+    mark();
+    so &= stall_write_short(n, s, n + 1, c, k, r, k, out, 0, answer, 4) == number && answer_is(first, second, STALL_CHAIN)
+        && all_marked(out, 0, sizeof out);
     mark();
     return so && stall_write(n, s, n + 1, c, k, r, k, out, 0, answer, 4) == number && answer_is(first, second, STALL_CHAIN)
         && all_marked(out, 0, sizeof out);
@@ -64,5 +68,5 @@ static void zero_rates_read(void)
         CHECK(answer_is(files[i].first, files[i].second, STALL_BYTES) && chain_unchanged());
     }
     static const uint8_t whole[] = {2, 2, 0, 1, 0, 0, 1, 0, 0, 0, 1};
-    CHECK(read_fresh(whole, sizeof whole) == 0 && answer_is(2, 2, 0) && rates[0] == 256 && rates[1] == 16777216);
+    CHECK(read_fresh(whole, sizeof whole) == 0 && answer_is(2, 2, 1) && rates[0] == 256 && rates[1] == 16777216);
 }

@@ -2,8 +2,8 @@
 import re
 
 from command import LOST, REFUSED, Stop, output, tell
-from shares_view import refusal
-from stored_chain import Refused, read
+from shares_view import announced, refusal
+from stored_chain import Refused, read_form
 
 LINE = re.compile(r"(?P<file>([0-9a-f]{2})+) kept( \d+){3}|(?P<part>first |second |)(?P<refusal>refused( \d+){3})( kept( \d+){3})?")
 
@@ -29,12 +29,20 @@ def joint_rows(program, paths, parts, names):
         raise refused(line, paths, parts, names)
     data = bytes.fromhex(line["file"])
     try:
-        rows = read(data)
+        form, rows = read_form(data)
     except Refused as wrong:
         raise Stop(f"{program} wrote no stored chain: {wrong}", LOST) from wrong
-    if len(rows) != parts[0][0] * parts[1][0]:
-        raise Stop(f"{program} wrote {len(rows)} states for {parts[0][0]} × {parts[1][0]}", LOST)
+    a, b = orders(parts)
+    if len(rows) != a * b:
+        raise Stop(f"{program} wrote {len(rows)} states for {a} × {b}", LOST)
+    if form != 1:
+        raise Stop(f"{program} wrote form {form}; a joint chain is written in form 1", LOST)
     return data, rows
+
+
+def orders(parts):
+    """How many states each of two stored chains has."""
+    return [announced(data)[1] for data in parts]
 
 
 def refused(line, paths, parts, names):
@@ -45,13 +53,13 @@ def refused(line, paths, parts, names):
         return Stop(f"{paths[at]}, the {part} part: {refusal(text, parts[at], names[at])}", REFUSED)
     if text != "refused 15 0 0":
         return Stop(f"the joining program refused what it has room for: {text}", LOST)
-    a, b = (data[0] for data in parts)
+    a, b = orders(parts)
     return Stop(f"{paths[0]} and {paths[1]}: {text}: {a} × {b} = {a * b} joint states, and a chain has at most 64", REFUSED)
 
 
-def joint_names(names, orders):
+def joint_names(names, parts):
     """The names of the joint states, such as idle+asleep; s3 where a part has no names. Should two be the same, numbers."""
-    first, second = (own or [f"s{i}" for i in range(order)] for own, order in zip(names, orders))
+    first, second = (own or [f"s{i}" for i in range(order)] for own, order in zip(names, orders(parts)))
     joint = [f"{one}+{other}" for one in first for other in second]
     if len(set(joint)) == len(joint):
         return joint

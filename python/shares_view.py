@@ -7,7 +7,7 @@ from fractions import Fraction
 from chain_text import is_text, parse, stored_bytes
 from command import LOST, REFUSED, Stop, output, tell
 from doubts import warn
-from stored_chain import cleaned, write
+from stored_chain import LEAD, Refused, cleaned, form_and_order, map_bytes, write
 
 REASONS = {
     1: "the number of states is 0 or above 64",
@@ -17,6 +17,7 @@ REASONS = {
     10: "bytes are left over after the last row",
     14: "row {0}, column {1}: the entry from {2} to {3} has rate 0, as old files store an unused move; tools/chain clean OLD NEW leaves "
         "such entries out",
+    16: "row {0}: bit {1} of its second map stands where there is no rate, or is missing at a rate below 65536",
 }
 # Numbers as the program writes them: no zeros in front, of 32 bits; an exponent may be below 0.
 WHOLE, EXPONENT = "(?:0|[1-9][0-9]{0,9})", "(?:0|-?[1-9][0-9]{0,4})"
@@ -29,8 +30,8 @@ LEFT = "left for good"  # in the place of a bar, for a state outside the closed 
 # ---- the chain and the names of its states
 
 def load(path, names_from=None):
-    """The stored bytes of a chain and the names of its states. Without a text that packs to these very bytes, once cleaned, there are no
-    names. Of a text it tells which names may be misspelt."""
+    """The stored bytes of a chain and the names of its states. Without a text that packs to these very bytes in their form, once cleaned,
+    there are no names. Of a text it tells which names may be misspelt."""
     if is_text(path):
         if names_from is not None:
             raise Stop(f"{path}: this is a text, with names of its own; --names goes with a stored chain")
@@ -51,9 +52,17 @@ def load(path, names_from=None):
 
 def names_for(data, path, text):
     names, rows = parse(text)
-    if write(rows) != cleaned(data):
+    if cleaned(data) not in [write(rows, form) for form in LEAD]:  # cleaning keeps the form
         raise Stop(f"{text} is not the text of {path}: packed, it gives other bytes")
     return names
+
+
+def announced(data):
+    """The form and the order that the first byte of a file announces; 0 and 0 where it is that of no form."""
+    try:
+        return form_and_order(data[0]) if data else (0, 0)
+    except Refused:
+        return 0, 0
 
 
 def called(names, i):
@@ -71,7 +80,7 @@ def reason(number, places, names=None):
 def answer(program, data):
     """What the printing program writes on these bytes, if it is what docs/FORMAT.md says of them as far as that is soon seen."""
     text = output(program, data, "tools/solve").decode("ascii", "replace")
-    order = data[0] if data else 0
+    _, order = announced(data)
     lines = rf"states {order} bound {WHOLE}\n({WHOLE}( {WHOLE} {EXPONENT}){{2}}\n){{{order}}}"
     if not re.fullmatch(rf"refused( {WHOLE}){{3}}\n|{lines}", text):
         raise Stop(f"{program} wrote something else than its documented lines: {text[:80]!r}", LOST)
@@ -111,8 +120,10 @@ def refusal(text, data, names):
     if not text.startswith("refused"):
         return None
     number, *places = map(int, text.split()[1:])
-    order, states = data[0] if data else 0, {6: 2, 9: 1, 14: 2}.get(number, 0)
-    if number not in REASONS or any(place >= order for place in places[:states]) or (number not in (6, 9, 14) and any(places)):
+    form, order = announced(data)
+    bits = 8 * map_bytes(order)
+    limits = {6: (order, order), 9: (order, bits), 14: (order, order), 16: (order, bits) if form == 2 else (0, 0)}.get(number, (1, 1))
+    if number not in REASONS or any(place >= limit for place, limit in zip(places, limits)):
         raise Stop(f"the program wrote a refusal that cannot be: {text.strip()}", LOST)
     return Stop(f"{text.strip()}: {reason(number, places, names)}", REFUSED)
 

@@ -72,7 +72,7 @@ def builds(folder):
     status, out, told = copy.ran("chain", "show", "--program", str(copy.program))
     check("a program that is named is not built", (status, told) == (0, "") and "\na  1.00000000 " in out)
     told = " ".join(ran(CHAIN, "--help")[1].split())
-    check("what the help says", "show, clean and join show and store what the programs write; pack and unpack are written in Python" in told)
+    check("what the help says", "show, convert, clean and join show and store what the programs write; pack, unpack and info run none" in told)
 
 
 def words_before(folder):

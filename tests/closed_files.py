@@ -84,20 +84,27 @@ OLD_CHAINS = (
 )
 
 
-def stored(n, moves):
-    return write([[(j, moves[i, j]) for j in range(n) if (i, j) in moves] for i in range(n)])
+def stored(n, moves, form=1):
+    return write([[(j, moves[i, j]) for j in range(n) if (i, j) in moves] for i in range(n)], form)
 
 
-def old_files():
-    """The name, the bytes, the cleaned bytes, and the text of these."""
+def old_files(form=1):
+    """In a form: the name, the bytes, the cleaned bytes, and the text of these."""
     for name, n, moves, _, text in OLD_CHAINS:
-        yield name, stored(n, moves), stored(n, {move: rate for move, rate in moves.items() if rate}), text
+        yield name, stored(n, moves, form), stored(n, {move: rate for move, rate in moves.items() if rate}, form), text
 
 
-def files():
-    """The name, the bytes and the text of each; old chains as they are, which is 14, and cleaned."""
+def files(form=1):
+    """In a form: the name, the bytes and the text of each; old chains as they are, which is 14, and cleaned."""
     for name, n, moves, text in CHAINS:
-        yield name, stored(n, moves), text
-    for (name, data, clean, text), (_, _, _, (row, column), _) in zip(old_files(), OLD_CHAINS):
+        yield name, stored(n, moves, form), text
+    for (name, data, clean, text), (_, _, _, (row, column), _) in zip(old_files(form), OLD_CHAINS):
         yield name, data, f"refused 14 {row} {column}\n"
         yield f"{name}, cleaned", clean, text
+
+
+def in_both_forms():
+    """The same in form 1, then in form 2."""
+    for form in (1, 2):
+        for name, data, text in files(form):
+            yield f"{name}, form {form}", data, text

@@ -1,12 +1,13 @@
-"""A seeded generator of stored chains, sound, old and damaged. File number i of seed s is the same on every machine.
+"""A seeded generator of stored chains, sound, old and damaged, in both forms. File number i of seed s is the same on every machine.
 
 A sound chain has one closed set, of all states or of some, or several. An old file is that of a sound chain with entries of rate 0
-(request R-5). A damaged file comes from either.
+(request R-5). A damaged file comes from either (damages.py).
 """
 import math
 import random
 
-from stored_chain import LONGEST_FILE, map_bytes, write
+from damages import DAMAGES, OLD_DAMAGES, SIMPLE, zero_places
+from stored_chain import write
 
 TOP = 2**32 - 1
 
@@ -188,134 +189,27 @@ def with_zeros(rng, rows):
     return made if zero_places(made) else one_zero(rng, rows)
 
 
-def zero_places(rows):
-    """The entries of rate 0: the row, the column, and the place among the entries of the row."""
-    return [(i, j, place) for i, row in enumerate(rows) for place, (j, rate) in enumerate(row) if rate == 0]
+# ---- request R-8: both forms
+
+def at_the_limit(rng, rows):
+    """Some rates become the largest short one or the smallest long one, or one beside them."""
+    chance = rng.choice((0.1, 0.5, 1))
+    return [[(j, rng.choice((65535, 65535, 65536, 65536, 65534, 65537)) if rate and rng.random() < chance else rate) for j, rate in row]
+            for row in rows]
 
 
-def map_places(rows):
-    """Where the bit map of each row starts in the file."""
-    places, at = [], 1
-    for row in rows:
-        places.append(at)
-        at += map_bytes(len(rows)) + 4 * len(row)
-    return places
-
-
-def with_bits(data, rows, row, bits):
-    data = bytearray(data)
-    for bit in bits:
-        data[map_places(rows)[row] + bit // 8] |= 1 << bit % 8
-    return bytes(data)
-
-
-# ---- damages: each takes a chain and its file
-
-def cut(rng, rows, data):
-    return data[:rng.randrange(len(data))]
-
-
-def longer(rng, rows, data):
-    return data + rng.randbytes(rng.choice((1, 2, 3, 4, 5, 9, 700)))
-
-
-def own_bit(rng, rows, data):
-    row = rng.randrange(len(rows))
-    return with_bits(data, rows, row, [row])
-
-
-def high_bit(rng, rows, data):
-    n = len(rows)
-    if n % 8 == 0:
-        return own_bit(rng, rows, data)
-    row = rng.randrange(n)
-    bits = rng.sample(range(n, 8 * map_bytes(n)), rng.randint(1, 8 * map_bytes(n) - n))
-    return with_bits(data, rows, row, bits + rng.choice(([], [row])))
-
-
-def bad_bit_then_cut(rng, rows, data):
-    """Which comes first, the bit or the end, depends on where the cut falls."""
-    data = rng.choice((own_bit, high_bit))(rng, rows, data)
-    return data[:rng.randrange(1, len(data))]
-
-
-def order_byte(rng, rows, data):
-    return bytes([rng.choice((0, 65, 66, 128, 129, 255))]) + rng.choice((b"", data[1:]))
-
-
-def other_order(rng, rows, data):
-    return bytes([rng.randint(1, 64)]) + data[1:]
-
-
-def flipped(rng, rows, data):
-    data = bytearray(data)
-    for _ in range(rng.choice((1, 1, 3))):
-        data[rng.randrange(len(data))] ^= 1 << rng.randrange(8)
-    return bytes(data)
-
-
-def random_bytes(rng, rows, data):
-    return rng.randbytes(rng.randrange(40))
-
-
-def overlong(rng, rows, data):
-    """The largest file with one byte too many, and longer than the program need read."""
-    full = write(chain_of(64, lambda i, j: 1))
-    assert len(full) == LONGEST_FILE
-    return full + bytes(rng.choice((1, 2, 20000)))
-
-
-def empty(rng, rows, data):
-    return b""
-
-
-DAMAGES = (cut, cut, cut, longer, own_bit, high_bit, high_bit, bad_bit_then_cut, order_byte, other_order, flipped, flipped,
-           random_bytes, overlong, empty)
-
-
-# ---- damages of an old file, near an entry of rate 0
-
-def zero_bytes(rng, rows):
-    """Where some rate of 0 stands in the file, and where its row ends."""
-    i, _, place = rng.choice(zero_places(rows))
-    first = map_places(rows)[i] + map_bytes(len(rows))
-    return first + 4 * place, first + 4 * len(rows[i])
-
-
-def cut_after_zero(rng, rows, data):
-    """The zero rate is read before the end, in the same row or right behind it."""
-    at, end = zero_bytes(rng, rows)
-    return data[:rng.randint(at + 4, max(at + 4, end - 1))]
-
-
-def cut_within_zero(rng, rows, data):
-    """Of the zero rate one to three bytes are left, or none."""
-    return data[:zero_bytes(rng, rows)[0] + rng.choice((0, 1, 2, 3, 3, 3))]
-
-
-def bit_in_its_row(rng, rows, data):
-    """A bad bit in the map before the zero rate."""
-    n, (i, _, _) = len(rows), rng.choice(zero_places(rows))
-    return with_bits(data, rows, i, [rng.choice((i, *range(n, 8 * map_bytes(n))))])
-
-
-def bit_in_a_later_row(rng, rows, data):
-    """A bad bit in a map behind the zero rate, or in its own if that is the last."""
-    i = min(rng.choice(zero_places(rows))[0] + 1, len(rows) - 1)
-    row = rng.randint(i, len(rows) - 1)
-    return with_bits(data, rows, row, [row])
-
-
-OLD_DAMAGES = (cut_after_zero, cut_after_zero, cut_within_zero, cut_within_zero, bit_in_its_row, bit_in_its_row, bit_in_a_later_row,
-               bit_in_a_later_row, longer, longer)
+# how many of a hundred files are sound, old, damaged, and damaged old ones; form 2 can have more faults
+SHARES = {1: (51, 31, 9, 9), 2: (46, 30, 16, 8)}
 
 
 def stored(seed, index):
-    """The bytes of file number index: of ten about five sound, three old, two damaged, half of these from old ones."""
+    """The bytes of file number index, in either form: of ten about five sound, three old, two damaged, many of these from old ones."""
     rng = random.Random(f"{seed}/{index}")
-    kind = rng.choices(("sound", "old", "damaged", "damaged old"), (51, 31, 9, 9))[0]
+    form = rng.choice((1, 2))
+    kind = rng.choices(("sound", "old", "damaged", "damaged old"), SHARES[form])[0]
     rows = with_zeros(rng, sound(rng, least=2)) if "old" in kind else sound(rng)
-    data = write(rows)
+    rows = at_the_limit(rng, rows) if rng.random() < 0.1 else rows
+    data = write(rows, form)
     if kind == "damaged old":
-        return rng.choice((*OLD_DAMAGES, *DAMAGES[:8]))(rng, rows, data)
-    return rng.choice(DAMAGES)(rng, rows, data) if kind == "damaged" else data
+        return rng.choice((*OLD_DAMAGES[form], *SIMPLE))(rng, rows, data)
+    return rng.choice(DAMAGES[form])(rng, rows, data) if kind == "damaged" else data

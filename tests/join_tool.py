@@ -3,7 +3,7 @@ import os
 import sys
 from pathlib import Path
 
-from tool_checks import CHAIN, EXAMPLES, HOW, NAMED, OLD, PRINTER, ROOT, SOLVE, STATION, check, failing_rt, program, ran, section
+from tool_checks import CHAIN, EXAMPLES, HOW, NAMED, OLD, PRINTER, ROOT, SHORT, SOLVE, STATION, check, failing_rt, program, ran, section
 
 JOINER = "--program", str(ROOT / "target" / "bin" / "joint_run")
 # case 2 of document 01 beside itself, and beside case 3, worked out by hand
@@ -75,6 +75,44 @@ def names(folder):
     check("names that are the same", status == 0 and "would not all differ" in told and out.read_text() == "state s0\nstate s1\nstate s2\nstate s3\n")
 
 
+def forms(folder):
+    """Parts in either stored form give the same joint chain, in form 1; orders and refusals in words are those of the form."""
+    out, many, one, bare = (Path(folder, name) for name in ("out.chain", "many.chain", "one.chain", "bare.chain"))
+    for parts in ((SHORT, SHORT), (SHORT, STATION), (STATION, SHORT)):
+        told = ran(CHAIN, "join", *parts, str(out), *JOINER)
+        check(f"stations: {told}", told == (0, f"{out}: 36 states, 120 moves, 661 bytes\n", "")
+              and out.read_bytes() == Path(EXAMPLES, "two-stations.chain").read_bytes())
+    two, text = Path(folder, "two.txt"), Path(folder, "out.txt")
+    two.write_text("low -> high 3\nhigh -> low 1\n")
+    bare.write_bytes(bytes.fromhex("83 00 00 00 00 00 00"))
+    status, _, told = ran(CHAIN, "join", str(two), str(bare), str(text), *JOINER)
+    check("names of a part in form 2", (status, told) == (0, "") and text.read_text().splitlines()[:6] == [
+        f"state {first}+s{j}" for first in ("low", "high") for j in range(3)])
+    ran(CHAIN, "pack", "--form", "2", str(two), f"{folder}/two.chain")
+    told = ran(CHAIN, "join", f"{folder}/two.chain", f"{folder}/two.chain", str(text), *JOINER)
+    check(f"names of the text beside it: {told}", told[::2] == (0, "") and text.read_text().startswith("state low+low\n"))
+    many.write_bytes(b"\xc0" + bytes(64 * 16))  # 64 states without a move
+    one.write_bytes(bytes.fromhex("81 00 00"))
+    told = ran(CHAIN, "join", str(many), str(one), str(out), *JOINER)
+    check(f"64 states beside one: {told}", told == (0, f"{out}: 64 states, 0 moves, 513 bytes\n", "") and out.read_bytes() == b"\x40" + bytes(64 * 8))
+    told = ran(CHAIN, "join", str(many), SHORT, str(out), *JOINER)
+    check(f"15: {told}", told == (1, "", f"chain: {many} and {SHORT}: refused 15 0 0: 64 × 6 = 384 joint states, and a chain has at most 64\n"))
+    words = "refused 16 0 3: row 0: bit 3 of its second map stands where there is no rate, or is missing at a rate below 65536\n"
+    for at, which in enumerate(("first", "second")):
+        parts = [SHORT, SHORT]
+        parts[at] = f"{EXAMPLES}/damaged-short.chain"
+        check(f"16 in the {which}", ran(CHAIN, "join", *parts, str(out), *JOINER) == (1, "", f"chain: {parts[at]}, the {which} part: {words}"))
+    first = Path(folder, "first.chain")
+    first.write_bytes(b"\1\0")
+    out.write_bytes(b"as it was")
+    for what, script, told in (("a byte too many", "echo 81000000 kept 1 1 1", "wrote no stored chain: refused 10 0 0\n"),
+                               ("a joint chain in form 2", "echo 810000 kept 1 1 1", "wrote form 2; a joint chain is written in form 1\n"),
+                               ("a mark in form 1", "echo first refused 16 0 1", "wrote a refusal that cannot be: refused 16 0 1\n")):
+        fake = program(folder, "fake", f"for i in 1 2; do {script}; done")
+        result = ran(CHAIN, "join", str(first), str(one), str(out), "--program", fake)
+        check(f"{what}: {result}", result[:2] == (3, "") and told in result[2] and out.read_bytes() == b"as it was")
+
+
 def no_joint_chain(folder):
     """Where joining gives no chain, OUT stays as it was or is not made, and the words say which part is at fault."""
     out, two, moves = Path(folder, "out.chain"), Path(folder, "two.txt"), Path(folder, "moves")
@@ -133,4 +171,4 @@ def no_joint_chain(folder):
     check(f"no file beside: {left}", left == ["failing", "fake", "moves", "out.chain", "two.txt"])
 
 
-PARTS = (joined, examples, names, no_joint_chain)
+PARTS = (joined, examples, names, forms, no_joint_chain)

@@ -6,7 +6,7 @@ from chain_model import FULL_3, damaged, reached, some_chain
 from exact_solver import MOST_FOR_TREES, closed_components, exact_weights, in_proportion, weights_by_minors, weights_by_trees
 from joint_model import HELD, ROOM, Chain, in_rows, joined, joining, joint_chain, lines, listed_rows
 from joint_run import EDGES, ORDERS, pair_of, some_part
-from stored_chain import read
+from stored_chain import read_form
 
 CASE_1, CASE_2 = Chain(1, [0, 0], [], []), Chain(2, [0, 1, 2], [1, 0], [3, 1])
 CASE_3 = Chain(3, [0, 1, 2, 3], [1, 2, 0], [2, 4, 8])
@@ -93,9 +93,10 @@ def traits(pair):
             yield " ".join((lent, *words[:at + 2], *words[at + 4:at + 5]))
     if "refused" in full:
         return
-    parts = [read(data) for data in pair]
+    forms, parts = zip(*map(read_form, pair))
     orders, closed = [len(part) for part in parts], [closed_components(part) for part in parts]
     yield f"joined, {'one state in a part' if 1 in orders else 'two states or more in each'}"
+    yield f"joined, forms {forms[0]} and {forms[1]}"
     if orders[0] * orders[1] == 64:
         yield "joined, 64 states"
     if max(map(len, closed)) > 1:
@@ -108,10 +109,11 @@ def traits(pair):
 def pairs_met(seed=1, most=400):
     """The pairs of a run meet every refusal that files can lead to, of both parts, and every kind of joint chain."""
     met = Counter(trait for index in range(most) for trait in traits(pair_of(seed, index)))
-    due = {f"{lent} {part} refused {number}" for lent in ("all", "less") for part in ("first", "second") for number in (1, 8, 9, 10)}
+    due = {f"{lent} {part} refused {number}" for lent in ("all", "less") for part in ("first", "second") for number in (1, 8, 9, 10, 16)}
     due |= {f"{lent} {part} refused 14{kept}" for lent, kept in (("all", ""), ("less", " kept")) for part in ("first", "second")}
     due |= {"all refused 15 kept", "less refused 15 kept", "less refused 5 kept", "joined, 64 states", "joined, a part with several closed sets"}
     due |= {f"joined, {what}" for what in ("one state in a part", "two states or more in each")}
+    due |= {f"joined, forms {first} and {second}" for first in (1, 2) for second in (1, 2)}
     due |= {f"joined, states outside the closed set in {which}" for which in ("neither", "the first", "the second", "both")}
     assert set(met) == due, set(met) ^ due
     assert min(met.values()) >= 4, met
@@ -167,6 +169,8 @@ SLIPS = (
     ('part_of("first", first, zeros), part_of("second", second, zeros)', 'part_of("second", second, zeros), part_of("first", first, zeros)',
      "the parts read in the other order"),
     (ROOM_TEST, "", "5 not tried"),
+    ("write(listed_rows(joint))", "write(listed_rows(joint), 2)", "the joint chain written in form 2"),
+    ("in LEAD.items():", "in [(1, 0)]:", "parts of form 2 not read"),
     (BUILT, BUILT + "    if len(closed_sets(reached(*joint))) > 1:\n        raise Refused(6)\n", "6 tried when joining"),
     ("new + old[len(new):] for", "new + [0] * len(old[len(new):]) for", "places beyond overwritten"),
     ("new + old[len(new):] for", "(new + [0] + old[len(new) + 1:])[:len(old)] for", "one place beyond overwritten"),

@@ -2,7 +2,8 @@
 afterwards.
 
 It is written from document 01 and the request alone. The joint chain is built as a table of moves between pairs of states, one part moving
-at a time; the rows follow from the table. It gives the lines that crates/joint_run prints for the bytes of two stored chains.
+at a time; the rows follow from the table. It gives the lines that crates/joint_run prints for the bytes of two stored chains, of either
+form; it writes the joint chain in form 1.
 """
 from collections import namedtuple
 

@@ -1,13 +1,14 @@
 """The seeded pairs of stored chains for crates/joint_run, sound and refused, each file after its length in two bytes, low byte first, and
-the lines that the program has to print for them, from joint_model.py. Pair number i of seed s is the same on every machine.
+the lines that the program has to print for them, from joint_model.py. Pair number i of seed s is the same on every machine. A part may be
+of either form (request R-8); the joint chain is written in form 1.
 
 The first pairs are edges, with both lines worked out by hand (`EDGES`); the rest are drawn by chance.
 """
 import random
 
 from closed_files import RING_OF_3, line as line_of, stored as file_of
-from generate import CONNECTED, DAMAGES, OLD_DAMAGES, TOP, longer, loose, no_moves, one_way, order, order_byte, power_on, settles_in_one
-from generate import several_sets, with_zeros
+from damages import DAMAGES, OLD_DAMAGES, longer, order_byte
+from generate import CONNECTED, TOP, at_the_limit, loose, no_moves, one_way, order, power_on, settles_in_one, several_sets, with_zeros
 from joint_model import LESS, ROOM, lines
 from stored_chain import LONGEST_FILE, write
 
@@ -40,12 +41,18 @@ def few(entries):
 CASE_1, CASE_2, CASE_3 = file_of(1, {}), file_of(2, {(0, 1): 3, (1, 0): 1}), file_of(3, RING_OF_3)
 CASE_6, CLEANED_6, CASE_7 = file_of(2, {(0, 1): 0, (1, 0): 5}), file_of(2, {(1, 0): 5}), file_of(3, {(0, 1): 1, (1, 0): 1, (2, 0): 1})
 APART, LAST_ZERO = file_of(2, {}), file_of(3, {(0, 1): 2, (1, 2): 4, (2, 0): 0})
+CASE_1_SHORT, CASE_2_SHORT, CASE_6_SHORT = file_of(1, {}, 2), file_of(2, {(0, 1): 3, (1, 0): 1}, 2), file_of(2, {(0, 1): 0, (1, 0): 5}, 2)
+UNMARKED_6 = bytes.fromhex("82 02 00 00000000 01 01 0500")  # its zero rate in four bytes
+TWICE_2 = {(0, 1): 3, (0, 2): 3, (1, 0): 1, (1, 3): 3, (2, 0): 1, (2, 3): 3, (3, 1): 1, (3, 2): 1}
 TOO_LARGE = ((5, 13), (13, 5), (2, 33), (33, 2), (2, 64), (64, 2), (64, 64), (8, 9), (9, 8))  # orders whose product is above 64
 LARGEST = ((1, 64), (64, 1), (2, 32), (32, 2), (3, 21), (4, 16), (16, 4), (8, 8), (7, 9), (9, 7))
 
 # the files of the parts, and the two lines
 JOINED = (
-    (CASE_2, CASE_2, joint(4, {(0, 1): 3, (0, 2): 3, (1, 0): 1, (1, 3): 3, (2, 0): 1, (2, 3): 3, (3, 1): 1, (3, 2): 1})),
+    (CASE_2, CASE_2, joint(4, TWICE_2)),
+    (CASE_2_SHORT, CASE_2, joint(4, TWICE_2)),
+    (CASE_2, CASE_2_SHORT, joint(4, TWICE_2)),
+    (CASE_2_SHORT, CASE_2_SHORT, joint(4, TWICE_2)),
     (CASE_2, CASE_3, joint(6, {(0, 1): 2, (0, 3): 3, (1, 2): 4, (1, 4): 3, (2, 0): 8, (2, 5): 3,
                                (3, 0): 1, (3, 4): 2, (4, 1): 1, (4, 5): 4, (5, 2): 1, (5, 3): 8})),
     (CASE_3, CASE_2, joint(6, {(0, 1): 3, (0, 2): 2, (1, 0): 1, (1, 3): 2, (2, 3): 3, (2, 4): 4,
@@ -65,6 +72,9 @@ JOINED = (
     (file_of(32, {(31, 0): 6}), file_of(2, {(0, 1): 5}),
      joint(64, {(62, 0): 6, (63, 1): 6, **{(2 * i, 2 * i + 1): 5 for i in range(32)}}, fits=False)),
     (CASE_1, file_of(64, line_of(64, 1)), joint(64, line_of(64, 1), fits=False)),
+    (CASE_1_SHORT, CASE_3, joint(3, RING_OF_3)),
+    (file_of(64, line_of(64, 1), 2), CASE_1_SHORT, joint(64, line_of(64, 1), fits=False)),
+    (file_of(2, {(0, 1): 65535}, 2), file_of(2, {(1, 0): 65536}, 2), joint(4, {(0, 2): 65535, (1, 3): 65535, (1, 0): 65536, (3, 2): 65536})),
     # just enough room, one entry more than rates, as many as columns, one more; as many states as starts allow, one more
     *((CASE_1, file_of(8, few(many)), joint(8, few(many), fits=many <= 20)) for many in (20, 21, 24, 25)),
     (file_of(8, few(20)), CASE_1, joint(8, few(20))),
@@ -76,10 +86,17 @@ REFUSED = (
     *((file_of(a, {}), file_of(b, {}), refused("refused 15 0 0", ROOM, LESS)) for a, b in TOO_LARGE),
     # each reason of a file, in the first part, in the second, in both; of these 14 alone is met by joining too
     *((*parts, refused(f"{whose} refused {told}"))
-      for digits, told in (("", "8 0 0"), ("40", "8 0 0"), ("00", "1 0 0"), ("41", "1 0 0"), ("0101", "9 0 0"), ("010000", "10 0 0"))
+      for digits, told in (("", "8 0 0"), ("40", "8 0 0"), ("00", "1 0 0"), ("41", "1 0 0"), ("0101", "9 0 0"), ("010000", "10 0 0"), ("80", "1 0 0"),
+                           ("c1", "1 0 0"), ("8202", "8 0 0"), ("8203", "9 0 0"), ("820206", "16 0 2"), ("82020003000000", "16 0 1"), ("81000000", "10 0 0"))
       for bad in [bytes.fromhex(digits)] for whose, parts in (("first", (bad, CASE_2)), ("second", (CASE_2, bad)), ("first", (bad, bad)))),
     (CASE_6, CASE_2, refused("first refused 14 0 1", LESS)),
     (CASE_2, CASE_6, refused("second refused 14 0 1", LESS)),
+    (CASE_6_SHORT, CASE_2, refused("first refused 14 0 1", LESS)),
+    (CASE_2, CASE_6_SHORT, refused("second refused 14 0 1", LESS)),
+    # an unmarked rate of 0 is refused by the reading of old files too
+    (UNMARKED_6, CASE_2, ("first refused 14 0 1", "first refused 16 0 1")),
+    (CASE_2, UNMARKED_6, ("second refused 14 0 1", "second refused 16 0 1")),
+    (CASE_6, UNMARKED_6, ("first refused 14 0 1", "second refused 16 0 1")),
     (LAST_ZERO, CASE_6, refused("first refused 14 2 0", LESS)),
     (CASE_6, LAST_ZERO, refused("first refused 14 0 1", LESS)),
     (file_of(64, {}), LAST_ZERO, refused("second refused 14 2 0", LESS)),  # before 15
@@ -122,22 +139,27 @@ def some_part(rng, n):
     return rng.choice(shapes)(rng, n)
 
 
+def some_form(rng):
+    return rng.choice((1, 2))
+
+
 def some_file(rng, n):
-    return write(some_part(rng, n))
+    rows = some_part(rng, n)
+    return write(at_the_limit(rng, rows) if rng.random() < 0.1 else rows, some_form(rng))
 
 
 def some_old(rng, n):
     """With entries of rate 0, unless there is one state."""
-    return write(with_zeros(rng, some_part(rng, n))) if n > 1 else some_file(rng, n)
+    return write(with_zeros(rng, some_part(rng, n)), some_form(rng)) if n > 1 else some_file(rng, n)
 
 
 def some_damaged(rng, n):
     """Damaged, an old file or another; some damages leave a file that is taken all the same."""
-    rows = some_part(rng, n)
+    rows, form = some_part(rng, n), some_form(rng)
     if n > 1 and rng.random() < 0.3:
         rows = with_zeros(rng, rows)
-        return rng.choice(OLD_DAMAGES)(rng, rows, write(rows))
-    return rng.choice((*DAMAGES, longer, longer, order_byte))(rng, rows, write(rows))
+        return rng.choice(OLD_DAMAGES[form])(rng, rows, write(rows, form))
+    return rng.choice((*DAMAGES[form], longer, longer, order_byte))(rng, rows, write(rows, form))
 
 
 def too_large(rng):

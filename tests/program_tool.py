@@ -6,12 +6,12 @@ import sys
 import time
 from pathlib import Path
 
-from tool_checks import CHAIN, EXAMPLES, PRINTER, ROOT, STATION, check, program, ran
+from tool_checks import CHAIN, CONVERTER, EXAMPLES, PRINTER, ROOT, STATION, check, program, ran
 
 sys.path.insert(0, str(ROOT / "python"))
 
 from elimination_model import printed  # noqa: E402
-from stored_chain import cleaned  # noqa: E402
+from stored_chain import cleaned, converted  # noqa: E402
 
 ONE = "2147483648 -31 2147483648 -31"  # a state's weight and share, both 1
 HALF = "2147483648 -31 2147483648 -32"
@@ -19,8 +19,8 @@ SOLVED = f"states 2 bound 8\n0 {HALF}\n1 {HALF}\n"
 
 
 def alone(folder):
-    """The printing and the cleaning program say where a read or a write fails; after a failed read they print nothing."""
-    for name in ("shares", "clean"):
+    """The printing, the cleaning and the converting program say where a read or a write fails; after a failed read they print nothing."""
+    for name in ("shares", "clean", "convert"):
         path = str(ROOT / "target" / "bin" / name)
         reading, writing = ("", f"{name}: could not read standard input\n"), f"{name}: could not write the result\n"
         there = os.open(folder, os.O_RDONLY)
@@ -62,10 +62,10 @@ def one_by_one(path, data, size):
 def in_parts(folder):
     """The programs read their input to its end, in however many parts it comes. What they should write is the models'."""
     once = program(folder, "once", "")
-    Path(once).write_text(f"#!{sys.executable}\nimport os, subprocess\nsubprocess.run(['{ROOT}/target/bin/shares'], input=os.read(0, 16642))\n")
-    for name in ("station", "power-on", "no-way-back", "rare", "two-traps"):
+    Path(once).write_text(f"#!{sys.executable}\nimport os, subprocess\nsubprocess.run(['{ROOT}/target/bin/shares'], input=os.read(0, 17154))\n")
+    for name in ("station", "station-short", "power-on", "no-way-back", "rare", "two-traps", "damaged-short"):
         data = Path(EXAMPLES, f"{name}.chain").read_bytes()
-        for called, expected in (("shares", printed(data).encode("ascii")), ("clean", cleaned(data))):
+        for called, expected in (("shares", printed(data).encode("ascii")), ("clean", cleaned(data)), ("convert", converted(data))):
             path = str(ROOT / "target" / "bin" / called)
             check(f"{called}, {name}: three bytes, a pause, the rest", paused(path, (data[:3], data[3:])) == expected)
             for size in (1, 5):
@@ -75,6 +75,13 @@ def in_parts(folder):
     longest = b"\x40" + b"".join((2**64 - 1 - 2**i).to_bytes(8, "little") + b"\1\0\0\0" * 63 for i in range(64))
     check("the longest file, one byte at a time", len(longest) == 16641 and one_by_one(PRINTER[1], longest, 1) == printed(longest).encode("ascii"))
     check("a byte more", one_by_one(PRINTER[1], longest + b"\0", 1) == b"refused 10 0 0\n")
+    # of form 2: a full map, no marks, and rates of 65,536
+    maps = [(2**64 - 1 - 2**i).to_bytes(8, "little") for i in range(64)]
+    one, two = (first + b"".join(row + marks + b"\0\0\1\0" * 63 for row in maps) for first, marks in ((b"\x40", b""), (b"\xc0", bytes(8))))
+    check("the longest file of form 2, one byte at a time", len(two) == 17153 and one_by_one(CONVERTER[1], two, 1) == one)
+    check("and back", one_by_one(CONVERTER[1], one, 7) == two)
+    for name in ("shares", "clean", "convert"):
+        check(f"{name}: a byte more than the longest", one_by_one(str(ROOT / "target" / "bin" / name), two + b"\0", 1) == b"refused 10 0 0\n")
     # a program that takes the first read alone is told by each of these ways
     check("one read alone: a pause", paused(once, (data[:3], data[3:])) == b"refused 8 0 0\n")
     check("one read alone: a byte", one_by_one(once, data, 1) == b"refused 8 0 0\n")
@@ -136,10 +143,20 @@ def lying(folder):
             ("a refusal of memory", "refused 5 0 0\n", "wrote a refusal that cannot be: refused 5 0 0\n"),
             ("no such state", "refused 6 0 2\n", "wrote a refusal that cannot be: refused 6 0 2\n"),
             ("no such row", "refused 14 2 0\n", "wrote a refusal that cannot be: refused 14 2 0\n"),
+            ("no such bit", "refused 9 0 8\n", "wrote a refusal that cannot be: refused 9 0 8\n"),
+            ("a mark in form 1", "refused 16 0 1\n", "wrote a refusal that cannot be: refused 16 0 1\n"),
             ("places of none", "refused 8 1 0\n", "wrote a refusal that cannot be: refused 8 1 0\n")):
         status, out, said = shown(lines)
         check(f"{what}: {said}", (status, out) == (3, "") and told in said)
     check("a refusal that can be", shown("refused 6 0 1\n")[:2] == (1, "") and shown("refused 14 1 0\n")[:2] == (1, ""))
+    check("a bit that can be", shown("refused 9 0 7\n")[:2] == (1, ""))
+    text = Path(folder, "two.chain")
+    text.write_bytes(bytes.fromhex("82 02 02 0100 01 01 0100"))
+    check("these lines are well in form 2", shown(SOLVED)[::2] == (0, ""))
+    check("of other states", shown(SOLVED.replace("states 2", "states 130"))[0] == 3)
+    for line, status in (("16 0 1", 1), ("16 1 7", 1), ("9 0 7", 1), ("16 2 0", 3), ("16 0 8", 3), ("9 0 8", 3), ("9 2 0", 3), ("14 0 2", 3), ("6 0 2", 3)):
+        result = shown(f"refused {line}\n")
+        check(f"in form 2: {result}", result[:2] == (status, "") and f"refused {line}" in result[2])
 
 
 PARTS = (alone, in_parts, programs, lying)

@@ -9,11 +9,13 @@ from pathlib import Path
 from types import SimpleNamespace
 
 import closed_files
+import form_checks
 import joint_checks
 import scaled_checks
 import worked
 import zero_checks
 from chain_model import chains, closed_sets, line, reached, rows_of
+from damages import longest
 from elimination_model import bound_count, eliminate, printed, printed_with_zeros
 from exact_solver import FACTOR, at_most_times, balanced_lists, closed_components, exact_problem, exact_weights, taken_alone
 from exact_solver import weights_by_minors, weights_by_trees
@@ -24,7 +26,7 @@ from joint_model import joining, lines
 from joint_run import EDGES as JOINT_EDGES, pair_of
 from scaled_model import ZERO, rate_of, value
 from shares_view import guaranteed, relative, rounded
-from stored_chain import Refused, cleaned, read, write
+from stored_chain import Refused, cleaned, converted, read, write
 
 ROOT = Path(__file__).resolve().parent.parent
 
@@ -34,7 +36,8 @@ def worked_cases():
         assert printed(bytes.fromhex(digits)) == text, name
     for name, rows, weights in worked.EXACT_WEIGHTS:
         assert exact_weights(rows) == weights and same_by_trees(rows), name
-    for name, data, text in closed_files.files():
+    fixed = list(closed_files.in_both_forms())
+    for name, data, text in fixed:
         assert printed(data) == text, name
     assert rate_of(3) == (3221225472, -30)
     for n, count in worked.BOUND_COUNTS:
@@ -42,7 +45,7 @@ def worked_cases():
     lines = printed(write(worked.all_ones())).splitlines()
     assert lines[0] == "states 64 bound 182784" and len(lines) == 65
     return (f"{len(worked.PRINTED)} printed cases, exact weights of {len(worked.EXACT_WEIGHTS)}, rate 3, K, case 10, "
-            f"{len(list(closed_files.files()))} fixed files of R-3 and R-5")
+            f"{len(fixed)} fixed files of R-3 and R-5, half of them in form 2")
 
 
 def same_by_trees(rows):
@@ -111,15 +114,6 @@ def factors():
     return "the edge of c factors, and the relative error that the tools name for it"
 
 
-def round_trip(rng, many=200):
-    for _ in range(many):
-        rows = sound(rng, least=2)
-        assert read(write(rows)) == rows
-        old = with_zeros(rng, rows)
-        assert read(write(old), zeros=True) == old
-    return f"{many} chains written and read, and as many with zero rates by the rules before 14"
-
-
 def examples():
     """Every text among the examples is the source of the stored chain beside it, of an old one once cleaned, and unpacking gives the same
     chain again."""
@@ -130,12 +124,14 @@ def examples():
             again, packed = Path(folder, "again.txt"), Path(folder, "packed.chain")
             for source in (text, again):
                 subprocess.run([ROOT / "tools" / "chain", "pack", source, packed], check=True, stdout=subprocess.DEVNULL)
-                assert packed.read_bytes() == cleaned(chain.read_bytes()), text.name
+                assert packed.read_bytes() == write(read(cleaned(chain.read_bytes()))), text.name
                 subprocess.run([ROOT / "tools" / "chain", "unpack", packed, again, "--names", text], check=True)
         many += 1
     old, clean = (ROOT.joinpath("examples", f"{name}.chain").read_bytes() for name in ("no-way-back", "no-way-back-cleaned"))
     assert cleaned(old) == clean != old
-    return f"{many} example texts packed and unpacked, and the old example cleaned"
+    station, short = (ROOT.joinpath("examples", f"{name}.chain").read_bytes() for name in ("station", "station-short"))
+    assert converted(station) == short and converted(short) == station and len(short) < len(station)
+    return f"{many} example texts packed and unpacked, the old example cleaned, and the station converted"
 
 
 def has_states_outside(data):
@@ -182,11 +178,12 @@ SLIPS = (
     ("over(total_of(times(weights[j], a[j][k]) for j in range(k + 1, n)), pivots[k])",
      "total_of(over(times(weights[j], a[j][k]), pivots[k]) for j in range(k + 1, n))", "each term divided on the way back"),
     ("over(w, total) for w in weights", "w for w in weights", "shares not divided by the total"),
-    ("for j in columns:\n            if j == i", "for j in reversed(columns):\n            if j == i", "9 names the highest bit"),
+    ("for j in columns:\n        if j == i", "for j in reversed(columns):\n        if j == i", "9 names the highest bit"),
     ("if j == i or j >= n:", "if j == i:", "bits at n and above let through"),
-    ("if at < len(data):", "if False:", "bytes left over let through"),
-    ("if not 1 <= n <= MOST_STATES:", "if not 1 <= n <= 255:", "order 65 let through"),
-    ('at:at + 4], "little")', 'at:at + 4], "big")', "rates high byte first"),
+    ("if source.at < len(data):", "if False:", "bytes left over let through"),
+    ("if lead < first <= lead + MOST_STATES:", "if lead < first <= lead + 65:", "order 65 let through"),
+    ("rate = source.number(2 if j in marks else 4)", "rate = int.from_bytes(source.number(2 if j in marks else 4).to_bytes(4, 'little'), 'big')",
+     "rates high byte first"),
     ("nearest((a[0] << (a[1] - e)) + (b[0] << (b[1] - e)), 1, e, bits)",
      "nearest((a[0] >> (max(a[1], b[1]) - a[1])) + (b[0] >> (max(a[1], b[1]) - b[1])), 1, max(a[1], b[1]), bits)",
      "operands shortened before adding"),
@@ -286,6 +283,18 @@ def zero_slips(seed=1, most=400):
     return f"{many} slips of zero rates and cleaning, each told apart by generated files and by those worked out by hand"
 
 
+def form_slips(seed=1, most=1200):
+    """Slips of request R-8, each told apart by generated files, and by those worked out by hand with the longest file."""
+    files = [stored(seed, i) for i in range(most)]
+    by_hand = [bytes.fromhex(digits) for _, digits, _ in worked.PRINTED] + [bytes.fromhex(digits) for _, *both in worked.BOTH_FORMS for digits in both]
+    for inputs in (files, [*by_hand, longest(2)]):
+        all_told_apart(form_checks.SLIPS, PRINTING, converted, inputs)
+    for inputs in (files, [bytes.fromhex(digits) for _, digits, _ in worked.CLEANED]):
+        all_told_apart(form_checks.CLEAN_SLIPS, PRINTING, cleaned, inputs)
+    many = len(form_checks.SLIPS) + len(form_checks.CLEAN_SLIPS)
+    return f"{many} slips of the two forms, each told apart by the first {most} files of seed {seed} and by those worked out by hand"
+
+
 def finds(check, model):
     try:
         check(model)
@@ -343,9 +352,9 @@ def main():
     rng = random.Random(1)
     parts = (worked_cases, lambda: scaled_checks.operations(rng), scaled_checks.short_words, scaled_checks.ends,
              rounding_slips, no_number, lambda: exact_solvers(rng), lambda: closed_by_all_means(rng), factors,
-             lambda: round_trip(rng), examples, power_on_files, digits, slips, zero_checks.worked_cases, zero_checks.promises,
-             zero_checks.zero_files, zero_slips, group_cases, group_slips, joint_checks.worked_cases, lambda: joint_checks.products(rng),
-             joint_checks.pairs_met, joint_slips)
+             examples, power_on_files, digits, slips, zero_checks.worked_cases, zero_checks.promises, zero_checks.zero_files, zero_slips,
+             form_checks.worked_cases, lambda: form_checks.both_forms(rng), form_checks.refusals, form_checks.form_files, form_slips,
+             group_cases, group_slips, joint_checks.worked_cases, lambda: joint_checks.products(rng), joint_checks.pairs_met, joint_slips)
     for part in parts:
         try:
             print("ok:", part())

@@ -4,7 +4,7 @@ import shutil
 import sys
 from pathlib import Path
 
-from tool_checks import CHAIN, EXAMPLES, PRINTER, SOLVE, STATION, check, program, ran
+from tool_checks import CHAIN, EXAMPLES, PRINTER, SHORT, SOLVE, STATION, check, program, ran
 
 RATE = "a rate is a whole number from 1 to 4294967295"
 TWO = bytes.fromhex("02 02 03000000 01 01000000")  # a -> b 3, b -> a 1
@@ -91,9 +91,11 @@ def codings(folder):
     check("plain letters in UTF-16", packed("a -> b 3\nb -> a 1\n".encode("utf-16-le"))[2].endswith("save it as UTF-8\n"))
     check("in UTF-8", packed.stored(content.encode())[1:] == (TWO, ""))
     check("an odd byte", "not a text in UTF-8" in packed(b"a -> b 1\xff\n")[2])
-    shutil.copy(STATION, packed.text)
-    status, _, told = ran(CHAIN, "pack", str(packed.text), str(packed.chain))
-    check("a stored chain as text", status == 2 and told == f"chain: {packed.text}: this is a stored chain, not a text\n")
+    for stored in (STATION, SHORT):
+        shutil.copy(stored, packed.text)
+        for verb, more in (("pack", (str(packed.chain),)), ("info", ())):
+            told = ran(CHAIN, verb, str(packed.text), *more)
+            check(f"{verb}, a stored chain as text: {told}", told == (2, "", f"chain: {packed.text}: this is a stored chain, not a text\n"))
 
 
 def doubts(folder):
@@ -148,11 +150,12 @@ def text_as_chain(folder):
     """A text where a stored chain is asked for is status 2, and no file is made; what is no text stays a matter of the program."""
     other, out = Path(folder, "moves"), Path(folder, "out.chain")
     verbs = {"solve": (SOLVE, str(other)), "show": (CHAIN, "show", str(other)), "unpack": (CHAIN, "unpack", str(other), f"{folder}/out.txt"),
-             "clean": (CHAIN, "clean", str(other), str(out)), "join": (CHAIN, "join", str(other), STATION, str(out))}
+             "info": (CHAIN, "info", str(other)), "clean": (CHAIN, "clean", str(other), str(out)),
+             "convert": (CHAIN, "convert", str(other), str(out)), "join": (CHAIN, "join", str(other), STATION, str(out))}
     content = "# two states\na -> b 3\nb -> a 1\n"
     many = "# many\n" + "".join(f"müde{i} -> müde{i + 1} 1\n" for i in range(900))  # the tool reads a part, up to within a character
     for data in (content.encode(), b"a -> b 3", b"Some words.\n", content.encode("utf-16"), content.encode("utf-16-be"), many.encode(),
-                 "müde -> b 3\n".encode("cp1252")):
+                 "müde -> b 3\n".encode("cp1252"), "“a” -> b 3\n".encode("cp1252")):  # the last begins with 0x93, as form 2 with 19 states does
         other.write_bytes(data)
         for verb, words in verbs.items() if data == content.encode() else (("unpack", verbs["unpack"]),):
             told = ran(*words)
@@ -163,7 +166,8 @@ def text_as_chain(folder):
     check("unpack a .txt", ran(CHAIN, "unpack", str(text)) == (2, "", f"chain: {text}: this is a text: a stored chain is asked for here\n"))
     told = ran(CHAIN, "show", str(text), "--names", str(text), *PRINTER)
     check("names for a text", told == (2, "", f"chain: {text}: this is a text, with names of its own; --names goes with a stored chain\n"))
-    for data, expected in ((b"@", "refused 8 0 0"), (b"A", "refused 1 0 0"), (b"", "refused 8 0 0"), (b"\nA", "refused 8 0 0")):
+    for data, expected in ((b"@", "refused 8 0 0"), (b"A", "refused 1 0 0"), (b"", "refused 8 0 0"), (b"\nA", "refused 8 0 0"),
+                           ("€".encode("cp1252"), "refused 1 0 0"), ("“a".encode("cp1252"), "refused 8 0 0")):
         other.write_bytes(data)
         status, _, said = ran(CHAIN, "show", str(other), *PRINTER)
         check(f"{data} is no text: {said}", status == 1 and f"moves: {expected}: " in said)

@@ -4,8 +4,8 @@ from pathlib import Path
 
 ROOT = Path(__file__).resolve().parent.parent
 CHAIN, SOLVE, EXAMPLES = (str(ROOT / path) for path in ("tools/chain", "tools/solve", "examples"))
-STATION, OLD, CLEAN = (f"{EXAMPLES}/{name}.chain" for name in ("station", "no-way-back", "no-way-back-cleaned"))
-PRINTER = "--program", str(ROOT / "target" / "bin" / "shares")
+STATION, SHORT, OLD, CLEAN = (f"{EXAMPLES}/{name}.chain" for name in ("station", "station-short", "no-way-back", "no-way-back-cleaned"))
+PRINTER, CLEANER, CONVERTER = (("--program", str(ROOT / "target" / "bin" / name)) for name in ("shares", "clean", "convert"))
 NAMED = "row 5, column 0: the entry from state 5 (stalled) to state 0 (idle) has rate 0, "
 HOW = "; tools/chain clean OLD NEW leaves such entries out\n"
 checked = []  # what was checked, and whether it holds

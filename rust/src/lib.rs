@@ -6,7 +6,7 @@
 //! not proved.
 //!
 //! ```
-//! let chain = stall::read(&[2, 2, 3, 0, 0, 0, 1, 1, 0, 0, 0])?;
+//! let chain = stall::read(&[2, 2, 3, 0, 0, 0, 1, 1, 0, 0, 0])?.chain;
 //! let solution = stall::solve(&chain)?;
 //! assert_eq!(solution.shares[1].to_f64(), 0.75);
 //! # Ok::<(), stall::Refusal>(())
@@ -18,7 +18,7 @@
 //!
 //! ```
 //! // 0 to 1, 1 to 0 and 2 to 0, all rate 1: state 2 is left once and never met again.
-//! let chain = stall::read(&[3, 2, 1, 0, 0, 0, 1, 1, 0, 0, 0, 1, 1, 0, 0, 0])?;
+//! let chain = stall::read(&[3, 2, 1, 0, 0, 0, 1, 1, 0, 0, 0, 1, 1, 0, 0, 0])?.chain;
 //! let shares = stall::solve(&chain)?.shares;
 //! assert_eq!(shares[0].to_f64(), 0.5);
 //! assert!(shares[2].is_zero());
@@ -33,19 +33,25 @@
 //! let refusal = stall::read(&[2, 2, 0, 0, 0, 0, 1, 5, 0, 0, 0]).unwrap_err();
 //! assert_eq!(refusal.to_string(), "refused 14 0 1");
 //! ```
+//!
+//! A chain is stored in one of two forms. `read` takes both and says which it was; `write` stores in form 1, `write_as` in either.
 mod refusal;
 mod scaled;
+mod stored;
 pub mod sys;
 
 pub use refusal::{BytesReason, ChainReason, JoinRefusal, Part, Refusal};
 pub use scaled::Scaled;
+pub use stored::{read, write, write_as, Form, Reading};
 
 /// The largest order.
 pub const MAX_ORDER: usize = 64;
 /// The most entries of a chain.
 pub const MAX_ENTRIES: usize = MAX_ORDER * (MAX_ORDER - 1);
-/// The most bytes of a stored chain.
-pub const MAX_BYTES: usize = 16_641;
+/// The most bytes of a stored chain, in either form.
+pub const MAX_BYTES: usize = 17_153;
+/// The most bytes of a stored chain in form 1.
+pub const MAX_BYTES_FORM_1: usize = 16_641;
 /// How many groups there are.
 pub const GROUPS: usize = 16;
 
@@ -181,7 +187,7 @@ pub fn solve(chain: &Chain) -> Result<Solution, Refusal> {
 /// is in one row; the rows stand in any order.
 ///
 /// ```
-/// let chain = stall::read(&[2, 2, 3, 0, 0, 0, 1, 1, 0, 0, 0])?;
+/// let chain = stall::read(&[2, 2, 3, 0, 0, 0, 1, 1, 0, 0, 0])?.chain;
 /// let (running, stalled) = (0, 1);
 /// let solved = stall::solve_groups(&chain, &[[1, 1, running], [0, 0, stalled]])?;
 /// assert_eq!(solved.groups[running as usize].to_f64(), 0.75);
@@ -230,68 +236,6 @@ pub fn solve_groups(chain: &Chain, table: &[[u32; 3]]) -> Result<GroupSolution, 
     })
 }
 
-/// Reads a stored chain, or gives the first refusal of its bytes in the order of docs/FORMAT.md; never 5.
-pub fn read(bytes: &[u8]) -> Result<Chain, Refusal> {
-    let mut starts = vec![0u32; MAX_ORDER + 1];
-    let (mut columns, mut rates) = (vec![0u32; MAX_ENTRIES], vec![0u32; MAX_ENTRIES]);
-    let mut answer = [0usize; 3];
-    // SAFETY: each pointer and length are those of one live slice; the mutable ones are different vectors and one array.
-    let number = unsafe {
-        sys::stall_read(
-            bytes.as_ptr(),
-            bytes.len(),
-            starts.as_mut_ptr(),
-            starts.len(),
-            columns.as_mut_ptr(),
-            columns.len(),
-            rates.as_mut_ptr(),
-            rates.len(),
-            answer.as_mut_ptr(),
-            answer.len(),
-        )
-    };
-    if number != 0 {
-        return Err(Refusal::told(number, answer));
-    }
-    let [order, entries, _] = answer;
-    starts.truncate(order + 1);
-    columns.truncate(entries);
-    rates.truncate(entries);
-    Ok(Chain {
-        order,
-        starts,
-        columns,
-        rates,
-    })
-}
-
-/// Stores a chain, or gives the first refusal in the order of docs/FORMAT.md; never 5. A chain with several closed sets, which solving refuses by 6, is stored too.
-pub fn write(chain: &Chain) -> Result<Vec<u8>, Refusal> {
-    let mut out = vec![0u8; MAX_BYTES];
-    let mut answer = [0usize; 3];
-    // SAFETY: each pointer and length are those of one live slice; the mutable ones are one vector and one array.
-    let number = unsafe {
-        sys::stall_write(
-            chain.order,
-            chain.starts.as_ptr(),
-            chain.starts.len(),
-            chain.columns.as_ptr(),
-            chain.columns.len(),
-            chain.rates.as_ptr(),
-            chain.rates.len(),
-            out.as_mut_ptr(),
-            out.len(),
-            answer.as_mut_ptr(),
-            answer.len(),
-        )
-    };
-    if number != 0 {
-        return Err(Refusal::told(number, answer));
-    }
-    out.truncate(answer[0]);
-    Ok(out)
-}
-
 /// Joins the chains of two stations side by side: the joint chain's state i × b + j has the first in state i and the second in state j,
 /// b being the order of the second, and one of the two moves at a time, with its own rate. Or it gives the first refusal in
 /// the order of docs/FORMAT.md, of the first part, of the second or of the joint chain; never 5.
@@ -300,7 +244,7 @@ pub fn write(chain: &Chain) -> Result<Vec<u8>, Refusal> {
 /// joined too.
 ///
 /// ```
-/// let two = stall::read(&[2, 2, 3, 0, 0, 0, 1, 1, 0, 0, 0])?;
+/// let two = stall::read(&[2, 2, 3, 0, 0, 0, 1, 1, 0, 0, 0])?.chain;
 /// let joint = stall::join(&two, &two).unwrap();
 /// assert_eq!(joint.order, 4);
 /// // Each is in state 1 for 3/4 of the time, both at once for 9/16.

@@ -33,7 +33,7 @@ pub enum ChainReason {
 /// Why stored bytes are turned away.
 #[derive(Clone, Copy, Debug, PartialEq, Eq, Hash)]
 pub enum BytesReason {
-    /// 1: the order byte is 0 or above 64.
+    /// 1: the first byte is that of no form: 0, 65 to 128, or 193 and above.
     Order,
     /// 5: a lent buffer is shorter than needed. The calls of this crate lend enough and never meet it.
     Room,
@@ -45,6 +45,8 @@ pub enum BytesReason {
     Extra,
     /// 14: a rate is 0, first at this entry.
     ZeroRate { row: usize, column: usize },
+    /// 16: in form 2, a bit of a row's second map stands without its rate, or a rate below 65,536 without its bit.
+    Mark { row: usize, bit: usize },
 }
 
 /// A refusal.
@@ -55,7 +57,7 @@ pub enum Refusal {
 }
 
 impl Refusal {
-    /// The refusal's number: 1 to 6, or 8 to 15.
+    /// The refusal's number: 1 to 6, or 8 to 16.
     pub fn number(self) -> u32 {
         match self {
             Refusal::Chain(reason) => match reason {
@@ -78,6 +80,7 @@ impl Refusal {
                 BytesReason::Bit { .. } => 9,
                 BytesReason::Extra => 10,
                 BytesReason::ZeroRate { .. } => 14,
+                BytesReason::Mark { .. } => 16,
             },
         }
     }
@@ -93,7 +96,9 @@ impl Refusal {
             Refusal::Chain(ChainReason::TableRow { row }) => (row, 0),
             Refusal::Chain(ChainReason::ZeroRate { row, column })
             | Refusal::Bytes(BytesReason::ZeroRate { row, column }) => (row, column),
-            Refusal::Bytes(BytesReason::Bit { row, bit }) => (row, bit),
+            Refusal::Bytes(BytesReason::Bit { row, bit } | BytesReason::Mark { row, bit }) => {
+                (row, bit)
+            }
             _ => (0, 0),
         }
     }
@@ -130,6 +135,10 @@ impl Refusal {
             (1, 14) => Refusal::Bytes(BytesReason::ZeroRate {
                 row: first,
                 column: second,
+            }),
+            (1, 16) => Refusal::Bytes(BytesReason::Mark {
+                row: first,
+                bit: second,
             }),
             _ => unreachable!("the library's contract has no refusal {number} of side {side}"),
         }

@@ -1,4 +1,4 @@
-//! The five exported calls as they are; `capi/stall.h` has their contracts.
+//! The six exported calls as they are; `capi/stall.h` has their contracts.
 
 extern "C" {
     pub fn stall_solve(
@@ -69,6 +69,20 @@ extern "C" {
     ) -> u32;
 
     pub fn stall_write(
+        n: usize,
+        starts: *const u32,
+        starts_length: usize,
+        columns: *const u32,
+        columns_length: usize,
+        rates: *const u32,
+        rates_length: usize,
+        out: *mut u8,
+        out_length: usize,
+        answer: *mut usize,
+        answer_length: usize,
+    ) -> u32;
+
+    pub fn stall_write_short(
         n: usize,
         starts: *const u32,
         starts_length: usize,

@@ -37,7 +37,7 @@ fn case_1() {
 
 #[test]
 fn case_2_read_solved_and_written() {
-    let two = read(&CASE_2).unwrap();
+    let two = read(&CASE_2).unwrap().chain;
     assert_eq!(two, chain(2, &[(0, 1, 3), (1, 0, 1)]));
     let solution = solve(&two).unwrap();
     assert_eq!(solution.bound, 8);
@@ -77,8 +77,8 @@ fn case_10() {
     let full = chain(64, &moves);
     assert_eq!(solve(&full).unwrap().bound, 182_784);
     let bytes = write(&full).unwrap();
-    assert_eq!(bytes.len(), stall::MAX_BYTES);
-    assert_eq!(read(&bytes).unwrap(), full);
+    assert_eq!(bytes.len(), stall::MAX_BYTES_FORM_1);
+    assert_eq!(read(&bytes).unwrap().chain, full);
 }
 
 #[test]
@@ -102,7 +102,9 @@ fn summed_from_the_lowest_state_up() {
 #[test]
 fn the_station_by_group() {
     let examples = concat!(env!("CARGO_MANIFEST_DIR"), "/../examples");
-    let station = read(&std::fs::read(format!("{examples}/station.chain")).unwrap()).unwrap();
+    let station = read(&std::fs::read(format!("{examples}/station.chain")).unwrap())
+        .unwrap()
+        .chain;
     let text = std::fs::read_to_string(format!("{examples}/station.groups")).unwrap();
     let rows = text.lines().filter_map(|line| {
         let mut numbers = line.split('#').next()?.split_whitespace();
@@ -226,7 +228,7 @@ fn chains_refused() {
         }
     );
     // Stored all the same, and read back.
-    assert_eq!(read(&write(&apart).unwrap()).unwrap(), apart);
+    assert_eq!(read(&write(&apart).unwrap()).unwrap().chain, apart);
     assert_eq!(
         write(&Chain { order: 65, ..two }),
         Err(Refusal::Chain(ChainReason::Order))
@@ -329,12 +331,12 @@ fn conversions() {
 
 #[test]
 fn at_once_in_four_threads() {
-    let expected = solve(&read(&CASE_2).unwrap()).unwrap();
+    let expected = solve(&read(&CASE_2).unwrap().chain).unwrap();
     std::thread::scope(|scope| {
         for _ in 0..4 {
             scope.spawn(|| {
                 for _ in 0..1000 {
-                    assert_eq!(solve(&read(&CASE_2).unwrap()).unwrap(), expected);
+                    assert_eq!(solve(&read(&CASE_2).unwrap().chain).unwrap(), expected);
                 }
             });
         }

@@ -82,7 +82,7 @@ fn the_station_from_power_on() {
     let examples = concat!(env!("CARGO_MANIFEST_DIR"), "/../examples");
     let solved = |name: &str| {
         let bytes = std::fs::read(format!("{examples}/{name}.chain")).unwrap();
-        solve(&read(&bytes).unwrap())
+        solve(&read(&bytes).unwrap().chain)
     };
     let (station, whole) = (solved("station").unwrap(), solved("power-on").unwrap());
     assert_eq!(whole.bound, station.bound);

@@ -155,7 +155,7 @@ fn in_words() {
 fn the_station_beside_itself() {
     let examples = concat!(env!("CARGO_MANIFEST_DIR"), "/../examples");
     let bytes = |name: &str| std::fs::read(format!("{examples}/{name}.chain")).unwrap();
-    let station = read(&bytes("station")).unwrap();
+    let station = read(&bytes("station")).unwrap().chain;
     let joint = join(&station, &station).unwrap();
     assert_eq!(write(&joint).unwrap(), bytes("two-stations"));
     let (alone, both) = (solve(&station).unwrap(), solve(&joint).unwrap());

@@ -82,7 +82,7 @@ fn numbers_and_places() {
 fn rates_with_zero_bytes() {
     for rate in [256, 65_536, 16_777_216] {
         let two = chain(2, &[(0, 1, rate), (1, 0, rate)]);
-        assert_eq!(read(&write(&two).unwrap()).unwrap(), two);
+        assert_eq!(read(&write(&two).unwrap()).unwrap().chain, two);
         let half = (2147483648, -32);
         assert_eq!(pairs(&solve(&two).unwrap().shares), [half, half]);
     }
@@ -94,7 +94,7 @@ fn the_old_example_and_its_cleaned_twin() {
     let bytes = |name: &str| std::fs::read(format!("{examples}/{name}.chain")).unwrap();
     let old = read(&bytes("no-way-back")).unwrap_err();
     assert_eq!(old.to_string(), "refused 14 5 0");
-    let cleaned = solve(&read(&bytes("no-way-back-cleaned")).unwrap()).unwrap();
+    let cleaned = solve(&read(&bytes("no-way-back-cleaned")).unwrap().chain).unwrap();
     assert_eq!(cleaned.bound, 0);
     assert_eq!(pairs(&cleaned.shares[5..]), [(2147483648, -31)]);
     assert!(cleaned.shares[..5].iter().all(|share| share.is_zero()));

@@ -5,7 +5,7 @@ use libc::STDOUT_FILENO;
 
 fn main() {
     let mut input = input::buffer();
-    let mut output = cleaning::file_buffer();
+    let mut output = filing::file_buffer();
     let got = input::read_input(&mut input);
     if got < 0 {
         io::write_all(STDERR_FILENO, b"clean: could not read standard input\n");

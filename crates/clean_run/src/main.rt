@@ -4,7 +4,7 @@ use libc::STDIN_FILENO;
 use libc::STDOUT_FILENO;
 
 fn write_cleaned(bytes: &[u8]) {
-    let mut output = cleaning::file_buffer();
+    let mut output = filing::file_buffer();
     let n = cleaning::clean(bytes, &mut output);
     io::write_all(STDOUT_FILENO, &output[..n]);
 }

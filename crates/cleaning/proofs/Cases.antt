@@ -16,8 +16,9 @@ use Rattle.reach.specs.Reach.{via}
 use Rattle.reach.specs.ClosedSets.{settles, isLowest, firstLowest, secondLowest, lowestSet}
 use Rattle.reach.specs.Answer.{oneClosed, answered, setOf}
 use Rattle.kernel.specs.Numbers.{plus, dividedBy}
-use Rattle.layout.specs.Bytes.{bitAt, storedRate}
-use Rattle.checking.specs.Verdict.{fileChecked, rowChecked, rateChecked}
+use Rattle.layout.specs.Forms.{formIn, orderIn}
+use Rattle.layout.specs.Bytes.{bitAt, shortRate, storedRate}
+use Rattle.checking.specs.Verdict.{fileChecked, rowChecked, rateChecked, marksChecked, markChecked}
 use Rattle.solver.specs.Solve.{entries, setSize, weightsOf, sharesOf, countOf, solved}
 use Rattle.decimal.specs.Decimal.{decimalDigits, decimal, signed}
 use Rattle.lines.specs.Lines.{headerLine, stateLine, stateLines}
@@ -35,7 +36,7 @@ abbrev new6 : List ℕ
 new6 = 2 ∷ 0 ∷ 1 ∷ 5 ∷ 0 ∷ 0 ∷ 0 ∷ []
 
 pub case-6 : cleanOf old6 ≡ new6
-unfolding cleanOf fileChecked rowChecked rateChecked bitAt storedRate cleaned
+unfolding cleanOf fileChecked rowChecked marksChecked rateChecked markChecked formIn orderIn bitAt shortRate storedRate cleaned
 case-6 = refl
 
 -- "states 2 bound 0", "0 2147483648 -31 2147483648 -31" and "1 0 0 0 0"
@@ -56,7 +57,7 @@ unfolding reportOf solvedText solved answered checked zerosChecked reportOfWithZ
     bitLength isScaledAt upward carried nearest roundedSum roundedQuotient converted sumOf quotientOf rateOf
     all boundCount rulesChecked startsSound columnsChecked entryBad rateIn via sum
     oneClosed setOf firstLowest secondLowest lowestSet isLowest settles
-    bitAt storedRate fileChecked rowChecked rateChecked
+    bitAt shortRate storedRate fileChecked rowChecked marksChecked rateChecked markChecked formIn orderIn
 texts-6 = (refl, refl)
 
 -- two states that no positive rate leaves: cleaned too, and 6 stays 6 with its places, "refused 6 0 1"
@@ -66,21 +67,45 @@ oldNone = 2 ∷ 2 ∷ 0 ∷ 0 ∷ 0 ∷ 0 ∷ 1 ∷ 0 ∷ 0 ∷ 0 ∷ 0 ∷ []
 pub no-answer : (cleanOf oldNone ≡ 2 ∷ 0 ∷ 0 ∷ []) × (reportOfWithZeros oldNone ≡ reportOf (2 ∷ 0 ∷ 0 ∷ []))
 unfolding cleanOf cleaned reportOf solvedText solved answered checked zerosChecked reportOfWithZeros solvedTextWithZeros solvedWithZeros answeredWithZeros
     all rulesChecked startsSound columnsChecked entryBad rateIn via sum oneClosed firstLowest secondLowest isLowest settles
-    bitAt storedRate fileChecked rowChecked rateChecked
+    bitAt shortRate storedRate fileChecked rowChecked marksChecked rateChecked markChecked formIn orderIn
 no-answer = (refl, refl)
 
 -- three states, rows of 2, 1 and 2 entries: 0 to 1 rate 0, 0 to 2 rate 256, 1 to 0 rate 7, 2 to 0 rate 1, 2 to 1 rate 0
 pub three-states : cleanOf (3 ∷ 6 ∷ 0 ∷ 0 ∷ 0 ∷ 0 ∷ 0 ∷ 1 ∷ 0 ∷ 0 ∷ 1 ∷ 7 ∷ 0 ∷ 0 ∷ 0 ∷ 3 ∷ 1 ∷ 0 ∷ 0 ∷ 0 ∷ 0 ∷ 0 ∷ 0 ∷ 0 ∷ [])
     ≡ 3 ∷ 4 ∷ 0 ∷ 1 ∷ 0 ∷ 0 ∷ 1 ∷ 7 ∷ 0 ∷ 0 ∷ 0 ∷ 1 ∷ 1 ∷ 0 ∷ 0 ∷ 0 ∷ []
-unfolding cleanOf fileChecked rowChecked rateChecked bitAt storedRate cleaned
+unfolding cleanOf fileChecked rowChecked marksChecked rateChecked markChecked formIn orderIn bitAt shortRate storedRate cleaned
 three-states = refl
 
 -- a file that the rules without 14 refuse gets their line: a zero rate and then the end is 8, "refused 8 0 0", and not 14
 pub cut-off : cleanOf (2 ∷ 2 ∷ 0 ∷ 0 ∷ 0 ∷ 0 ∷ []) ≡ 114 ∷ 101 ∷ 102 ∷ 117 ∷ 115 ∷ 101 ∷ 100 ∷ 32 ∷ 56 ∷ 32 ∷ 48 ∷ 32 ∷ 48 ∷ 10 ∷ []
-unfolding cleanOf fileChecked rowChecked rateChecked bitAt storedRate cleaned refusedLine decimal decimalDigits
+unfolding cleanOf fileChecked rowChecked marksChecked rateChecked markChecked formIn orderIn bitAt shortRate storedRate cleaned refusedLine decimal decimalDigits
 cut-off = refl
 
 -- places that differ, "refused 9 1 2": a bit at n in the second row, behind a zero rate
 pub bad-bit : cleanOf (2 ∷ 2 ∷ 0 ∷ 0 ∷ 0 ∷ 0 ∷ 4 ∷ []) ≡ 114 ∷ 101 ∷ 102 ∷ 117 ∷ 115 ∷ 101 ∷ 100 ∷ 32 ∷ 57 ∷ 32 ∷ 49 ∷ 32 ∷ 50 ∷ 10 ∷ []
-unfolding cleanOf fileChecked rowChecked rateChecked bitAt storedRate cleaned refusedLine decimal decimalDigits
+unfolding cleanOf fileChecked rowChecked marksChecked rateChecked markChecked formIn orderIn bitAt shortRate storedRate cleaned refusedLine decimal decimalDigits
 bad-bit = refl
+
+-- ---- form 2: "Cleaning keeps a file's form"
+
+-- three states: 0 to 1 rate 0, marked, 0 to 2 rate 70,000, 1 to 0 rate 256, 2 to 1 rate 0, marked
+abbrev pub oldShort : List ℕ
+oldShort = 131 ∷ 6 ∷ 2 ∷ 0 ∷ 0 ∷ 112 ∷ 17 ∷ 1 ∷ 0 ∷ 1 ∷ 1 ∷ 0 ∷ 1 ∷ 2 ∷ 2 ∷ 0 ∷ 0 ∷ []
+
+abbrev pub newShort : List ℕ
+newShort = 131 ∷ 4 ∷ 0 ∷ 112 ∷ 17 ∷ 1 ∷ 0 ∷ 1 ∷ 1 ∷ 0 ∷ 1 ∷ 0 ∷ 0 ∷ []
+
+-- a marked zero is dropped from both maps and from the rates; what is clean stays
+pub short-cleaned : cleanOf oldShort ≡ newShort
+unfolding cleanOf fileChecked rowChecked marksChecked rateChecked markChecked formIn orderIn bitAt shortRate storedRate cleaned
+short-cleaned = refl
+
+pub short-unchanged : cleanOf newShort ≡ newShort
+unfolding cleanOf fileChecked rowChecked marksChecked rateChecked markChecked formIn orderIn bitAt shortRate storedRate cleaned
+short-unchanged = refl
+
+-- an unmarked zero would be refused without 14 too: "refused 16 0 1"
+pub unmarked-zero : cleanOf (130 ∷ 2 ∷ 0 ∷ 0 ∷ 0 ∷ 0 ∷ 0 ∷ 1 ∷ 1 ∷ 1 ∷ 0 ∷ [])
+    ≡ 114 ∷ 101 ∷ 102 ∷ 117 ∷ 115 ∷ 101 ∷ 100 ∷ 32 ∷ 49 ∷ 54 ∷ 32 ∷ 48 ∷ 32 ∷ 49 ∷ 10 ∷ []
+unfolding cleanOf fileChecked rowChecked marksChecked rateChecked markChecked formIn orderIn bitAt shortRate storedRate cleaned refusedLine decimal decimalDigits
+unmarked-zero = refl

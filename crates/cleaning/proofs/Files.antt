@@ -1,25 +1,28 @@
 -- A file that the rules without 14 take, and the file of its chain without the entries of rate 0. Assumes nothing.
 use mathlib.Core.Bool.{true}
-use mathlib.Core.List.{List}
-use mathlib.Core.Path.{_≡_, sym, ap, subst, _∙_}
-use Prim.Native.Nat.{ℕ, _<_, _≤_}
+use mathlib.Core.List.{List, [], _∷_}
+use mathlib.Core.Path.{_≡_, sym, subst}
+use Prim.Native.Nat.{ℕ, zero, suc, _<_, _≤_}
 use native.Mathlib.Omega.{arith}
 use lib.ListN.{length, getD}
 use Rattle.refusal.specs.Table.{Verdict, accepts}
 use Rattle.chain.specs.Rows.{Rows}
 use Rattle.chain.specs.Sound.{Sound, AllPositive, Accepted}
-use Rattle.layout.specs.Bytes.{orderOf, chainOf}
-use Rattle.layout.specs.File.{fileOf, fileSize}
+use Rattle.layout.specs.declared.Form.{Form}
+use Rattle.layout.specs.Bytes.{formOf, chainOf}
+use Rattle.layout.specs.File.{ratesSize, fileOf}
+use Rattle.layout.proofs.FirstByte.{no-letter}
+use Rattle.layout.proofs.Fit.{rates-fit}
 use Rattle.checking.specs.Sound.{zerosTaken, zerosRefused}
 use Rattle.checking.specs.Verdict.{fileChecked}
-use Rattle.storage.proofs.Passes.{file-sound, file-size, file-entries}
+use Rattle.storage.proofs.Passes.{file-sound, file-size}
+use Rattle.storage.proofs.Calls.{held-size}
 use Rattle.storage.proofs.ReadWrite.{read-write}
 use Rattle.storage.proofs.WriteRead.{Holds, file-forth}
 use Rattle.storage.proofs.ZeroRates.{file-relaxed, file-strict, file-positive}
 use Rattle.report.specs.Report.{textFor, solvedText, reportOf}
-use Rattle.report.proofs.EndToEnd.{rates-fit}
-use Rattle.cleaned.specs.Cleaned.{cleaned}
-use Rattle.cleaned.proofs.CleanedLaws.{cleaned-sound, cleaned-positive, cleaned-rates, cleaned-same, cleaned-fewer, cleaned-fit}
+use Rattle.cleaned.specs.Cleaned.{kept, cleaned}
+use Rattle.cleaned.proofs.CleanedLaws.{cleaned-sound, cleaned-positive, cleaned-rates, cleaned-same, cleaned-fit}
 use Rattle.cleaning.specs.WithZeros.{solvedWithZeros, solvedTextWithZeros, reportOfWithZeros}
 use Rattle.cleaning.specs.Cleaning.{cleanOf, SameAnswer, CleanedFile}
 use Rattle.cleaning.proofs.Answers.{same-answer, text-is}
@@ -27,25 +30,32 @@ use Rattle.cleaning.proofs.Answers.{same-answer, text-is}
 pub cleaned-accepted : {c : Rows} → Sound c → Accepted (cleaned c)
 cleaned-accepted {c} s = record { sound = cleaned-sound s; positive = cleaned-positive c }
 
+-- rates left out take their bytes with them
+kept-size : (form : Form) (values rates : List ℕ) → ratesSize form (kept values rates) ≤ ratesSize form values
+kept-size form [] rates = omega arith
+kept-size form (v ∷ vs) [] = omega arith
+kept-size form (v ∷ vs) (zero ∷ rs) = omega (arith, kept-size form vs rs)
+kept-size form (v ∷ vs) (suc r ∷ rs) = omega (arith, kept-size form vs rs)
+
 module _ (bytes : List ℕ) (fit : (i : ℕ) → getD bytes i 0 < 256) (e : ℕ) (h : fileChecked zerosTaken bytes ≡ accepts e) where
   sound : Sound (chainOf bytes)
   sound = file-sound zerosTaken bytes e h
 
-  output-is : cleanOf bytes ≡ fileOf (cleaned (chainOf bytes))
+  output-is : cleanOf bytes ≡ fileOf (formOf bytes) (cleaned (chainOf bytes))
   unfolding cleanOf
   output-is = rw h
 
-  holds : Holds (fileOf (cleaned (chainOf bytes))) (cleaned (chainOf bytes))
-  holds = file-forth (cleaned (chainOf bytes)) (cleaned-sound sound) (cleaned-fit (chainOf bytes) (rates-fit bytes fit))
+  holds : Holds (formOf bytes) (fileOf (formOf bytes) (cleaned (chainOf bytes))) (cleaned (chainOf bytes))
+  holds = file-forth (formOf bytes) (cleaned (chainOf bytes)) (cleaned-sound sound) (cleaned-fit (chainOf bytes) (rates-fit bytes fit))
 
-  strict : fileChecked zerosRefused (fileOf (cleaned (chainOf bytes))) ≡ accepts (length (cleaned (chainOf bytes) .columns))
+  strict : fileChecked zerosRefused (fileOf (formOf bytes) (cleaned (chainOf bytes))) ≡ accepts (length (cleaned (chainOf bytes) .columns))
   strict =
-      file-strict (fileOf (cleaned (chainOf bytes))) (length (cleaned (chainOf bytes) .columns)) (holds .accepted)
+      file-strict (fileOf (formOf bytes) (cleaned (chainOf bytes))) (length (cleaned (chainOf bytes) .columns)) (holds .accepted)
       (subst (λ (c : Rows). AllPositive (c .rates)) (sym (holds .chain-is)) (cleaned-positive (chainOf bytes)))
 
-  again : cleanOf (fileOf (cleaned (chainOf bytes))) ≡ fileOf (cleaned (chainOf bytes))
+  again : cleanOf (fileOf (formOf bytes) (cleaned (chainOf bytes))) ≡ fileOf (formOf bytes) (cleaned (chainOf bytes))
   unfolding cleanOf
-  again = rw (holds .accepted, holds .chain-is, cleaned-same (cleaned-sound sound) (cleaned-positive (chainOf bytes)))
+  again = rw (holds .accepted, holds .chain-is, holds .form-is, cleaned-same (cleaned-sound sound) (cleaned-positive (chainOf bytes)))
 
   -- the two chains have the same answer and the same text
   same : SameAnswer (chainOf bytes) (cleaned (chainOf bytes))
@@ -56,14 +66,13 @@ module _ (bytes : List ℕ) (fit : (i : ℕ) → getD bytes i 0 < 256) (e : ℕ)
   unfolding cleaned
   text-same = text-is (chainOf bytes) _ _ _ sound (cleaned-accepted sound) (cleaned-rates sound)
 
-  shorter : length (fileOf (cleaned (chainOf bytes))) ≤ length bytes
+  shorter : length (fileOf (formOf bytes) (cleaned (chainOf bytes))) ≤ length bytes
+  unfolding cleaned
   shorter =
-      let o : orderOf (fileOf (cleaned (chainOf bytes))) ≡ orderOf bytes = ap (λ (c : Rows). c .order) (holds .chain-is) ∙ same .order in
-      let a : length (fileOf (cleaned (chainOf bytes))) ≡ fileSize (orderOf bytes) (length (cleaned (chainOf bytes) .columns)) =
-      file-size zerosTaken (fileOf (cleaned (chainOf bytes))) _ (holds .accepted) ∙ ap (λ (n : ℕ). fileSize n (length (cleaned (chainOf bytes) .columns))) o in
-      omega (arith, a, file-size zerosTaken bytes e h, file-entries zerosTaken bytes e h, cleaned-fewer (chainOf bytes))
+      let a = held-size zerosTaken (formOf bytes) (fileOf (formOf bytes) (cleaned (chainOf bytes))) (cleaned (chainOf bytes)) _ holds (holds .accepted) in
+      omega (arith, a, file-size zerosTaken bytes e h, kept-size (formOf bytes) (chainOf bytes .rates) (chainOf bytes .rates))
 
-  text : reportOf (fileOf (cleaned (chainOf bytes))) ≡ reportOfWithZeros bytes
+  text : reportOf (fileOf (formOf bytes) (cleaned (chainOf bytes))) ≡ reportOfWithZeros bytes
   unfolding reportOf reportOfWithZeros solvedText solvedTextWithZeros
   text = rw (strict, h, holds .chain-is, same .answer true) (text-same (solvedWithZeros (chainOf bytes) true))
 
@@ -71,9 +80,10 @@ module _ (bytes : List ℕ) (fit : (i : ℕ) → getD bytes i 0 < 256) (e : ℕ)
   cleaned-file = record {
     accepted = rw output-is strict;
     chain = rw output-is (holds .chain-is);
+    form = rw output-is (holds .form-is);
     same = rw (output-is, holds .chain-is) same;
     text = rw output-is text;
-    first-byte = rw output-is (omega (arith, same .order, sound .order .high));
+    first-byte = rw output-is (no-letter (cleaned (chainOf bytes) .order) (omega (arith, same .order, sound .order .low)) (omega (arith, same .order, sound .order .high)) (formOf bytes));
     shorter = rw output-is shorter;
     again = rw output-is again;
   }

@@ -12,7 +12,7 @@ use Rattle.refusal.specs.Table.{Verdict, Side, accepts, refuses}
 use Rattle.refusal.specs.declared.Line.{Line}
 use Rattle.chain.specs.Rows.{Rows}
 use Rattle.chain.specs.Meaning.{rateIn}
-use Rattle.layout.specs.Bytes.{chainOf}
+use Rattle.layout.specs.Bytes.{formOf, chainOf}
 use Rattle.layout.specs.File.{fileOf, longestFile, enoughBytes}
 use Rattle.checking.specs.Sound.{zerosTaken, zerosRefused}
 use Rattle.checking.specs.Verdict.{fileChecked}
@@ -23,9 +23,10 @@ use Rattle.report.specs.Report.{reportOf}
 use Rattle.cleaned.specs.Cleaned.{cleaned}
 use Rattle.cleaning.specs.WithZeros.{solvedWithZeros, reportOfWithZeros}
 
--- the output for bytes that were read with this verdict: the file of the chain without its entries of rate 0, or the line of the refusal
+-- the output for bytes that were read with this verdict: the file of the chain without its entries of rate 0, in the same form (R-8:
+-- "Cleaning keeps a file's form"), or the line of the refusal
 abbrev pub outputAfter : List ℕ → Verdict ℕ → List ℕ
-outputAfter bytes (accepts entries) = fileOf (cleaned (chainOf bytes))
+outputAfter bytes (accepts entries) = fileOf (formOf bytes) (cleaned (chainOf bytes))
 outputAfter bytes (refuses side line) = refusedLine line
 
 -- the bytes are read by the rules without 14: "A file that would be refused without 14 too gets only that "refused" line"
@@ -49,11 +50,12 @@ pub record CleanedFile (bytes : List ℕ) : Type 0 where
   -- the output is a file that today's reading takes, of the chain without its entries of rate 0
   pub accepted : fileChecked zerosRefused (cleanOf bytes) ≡ accepts (length (cleaned (chainOf bytes) .columns))
   pub chain : chainOf (cleanOf bytes) ≡ cleaned (chainOf bytes)
+  pub form : formOf (cleanOf bytes) ≡ formOf bytes
   -- solving and printing say of it what they said of the old one
   pub same : SameAnswer (chainOf bytes) (chainOf (cleanOf bytes))
   pub text : reportOf (cleanOf bytes) ≡ reportOfWithZeros bytes
-  -- it begins with its order, never with the letter r (114) of a refusal's line; it is not longer; cleaning it changes nothing
-  pub first-byte : getD (cleanOf bytes) 0 0 ≤ 64
+  -- it never begins with the letter r (114) of a refusal's line; it is not longer; cleaning it changes nothing
+  pub first-byte : getD (cleanOf bytes) 0 0 ≢ 114
   pub shorter : length (cleanOf bytes) ≤ length bytes
   pub again : cleanOf (cleanOf bytes) ≡ cleanOf bytes
 

@@ -10,6 +10,7 @@ ghost use Prim.Native.Nat.{_*_, _≤_};
 ghost use lib.ListN.{length};
 use framed::Next;
 use joint::Joining;
+use layout::Form;
 use libc::STDIN_FILENO;
 use libc::STDOUT_FILENO;
 use refusal::Outcome;
@@ -104,6 +105,7 @@ fn print_file(order: usize, entries: usize, starts: &[u32], columns: &[u32], rat
     let mut out = [0u8; layout::LONGEST_FILE];
     if order < starts.len() && entries <= columns.len() && entries <= rates.len() {
         match storage::write(
+            Form::One,
             order,
             &starts[..order + 1],
             &columns[..entries],
@@ -201,12 +203,14 @@ fn print_line(
         Reading::Chain {
             order: a,
             entries: e1,
+            form: _,
         } => {
             match read_part(second, old, &mut starts2, &mut columns2, &mut rates2) {
                 Reading::Refused(refusal) => print_unread(b"second ", refusal),
                 Reading::Chain {
                     order: b,
                     entries: e2,
+                    form: _,
                 } => print_joint(
                     a,
                     e1,

@@ -34,6 +34,7 @@ never-7 (Bytes bytes.Short) e = omega arith
 never-7 (Bytes (bytes.Bit row bit)) e = omega arith
 never-7 (Bytes bytes.Extra) e = omega arith
 never-7 (Bytes (bytes.ZeroRate row column)) e = omega arith
+never-7 (Bytes (bytes.Mark row bit)) e = omega arith
 
 -- ---- the reason, told from its line
 
@@ -48,7 +49,8 @@ chainReason l k =
 bytesReason : Line → ℕ → BytesReason
 bytesReason l k =
     cond (eqb k 1) bytes.Order (cond (eqb k 5) bytes.Room (cond (eqb k 8) bytes.Short
-    (cond (eqb k 9) (bytes.Bit (l .first) (l .second)) (cond (eqb k 10) bytes.Extra (bytes.ZeroRate (l .first) (l .second))))))
+    (cond (eqb k 9) (bytes.Bit (l .first) (l .second)) (cond (eqb k 10) bytes.Extra
+    (cond (eqb k 14) (bytes.ZeroRate (l .first) (l .second)) (bytes.Mark (l .first) (l .second)))))))
 
 -- what an acceptance is given here does not matter
 refusalOf : Verdict ℕ → Refusal
@@ -75,6 +77,7 @@ told-again (Bytes bytes.Short) = refl
 told-again (Bytes (bytes.Bit row bit)) = refl
 told-again (Bytes bytes.Extra) = refl
 told-again (Bytes (bytes.ZeroRate row column)) = refl
+told-again (Bytes (bytes.Mark row bit)) = refl
 
 pub verdict-fixes : (r s : Refusal) → verdict (Refused s) ≡ verdict (Refused r) → s ≡ r
 verdict-fixes r s e = sym (told-again s) ∙ ap refusalOf e ∙ told-again r

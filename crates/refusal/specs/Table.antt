@@ -41,6 +41,7 @@ bytesLine bytes.Short = numbered 8 0 0
 bytesLine (bytes.Bit row bit) = numbered 9 row bit
 bytesLine bytes.Extra = numbered 10 0 0
 bytesLine (bytes.ZeroRate row column) = numbered 14 row column
+bytesLine (bytes.Mark row bit) = numbered 16 row bit
 
 abbrev pub line : Refusal → Line
 line (Chain reason) = chainLine reason

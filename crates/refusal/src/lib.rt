@@ -33,6 +33,8 @@ pub enum BytesReason {
     Extra,
     // Row, column.
     ZeroRate(usize, usize),
+    // Row, bit of the second map.
+    Mark(usize, usize),
 }
 
 // A refusal says whether the chain or the stored bytes were at fault, with that side's own reason inside.
@@ -92,6 +94,7 @@ fn bytes_line(reason: BytesReason) -> Line
         BytesReason::Bit(row, bit) => table_line(9, row, bit),
         BytesReason::Extra => table_line(10, 0, 0),
         BytesReason::ZeroRate(row, column) => table_line(14, row, column),
+        BytesReason::Mark(row, bit) => table_line(16, row, bit),
     }
 }
 

@@ -23,8 +23,9 @@ use Rattle.reach.specs.Reach.{via}
 use Rattle.reach.specs.ClosedSets.{settles, isLowest, firstLowest, secondLowest, lowestSet}
 use Rattle.reach.specs.Answer.{oneClosed, answered, setOf}
 use Rattle.kernel.specs.Numbers.{plus, times, dividedBy}
-use Rattle.layout.specs.Bytes.{bitAt, storedRate}
-use Rattle.checking.specs.Verdict.{fileChecked, rowChecked, rateChecked}
+use Rattle.layout.specs.Forms.{formIn, orderIn}
+use Rattle.layout.specs.Bytes.{bitAt, shortRate, storedRate}
+use Rattle.checking.specs.Verdict.{fileChecked, rowChecked, rateChecked, marksChecked, markChecked}
 use Rattle.solver.specs.Solve.{entries, setSize, weightsOf, sharesOf, countOf, solved}
 use Rattle.decimal.specs.Decimal.{decimalDigits, decimal, signed}
 use Rattle.lines.specs.Lines.{headerLine, stateLine, stateLines}
@@ -34,13 +35,13 @@ use Rattle.report.proofs.EndToEnd.{end-to-end}
 
 -- "Cut-off input of case 2, bytes 02 02 03, prints "refused 8 0 0"."
 pub cut-off : reportOf (2 ∷ 2 ∷ 3 ∷ []) ≡ 114 ∷ 101 ∷ 102 ∷ 117 ∷ 115 ∷ 101 ∷ 100 ∷ 32 ∷ 56 ∷ 32 ∷ 48 ∷ 32 ∷ 48 ∷ 10 ∷ []
-unfolding reportOf fileChecked rowChecked rateChecked bitAt refusedLine decimal decimalDigits
+unfolding reportOf fileChecked rowChecked marksChecked rateChecked formIn orderIn bitAt refusedLine decimal decimalDigits
 cut-off = refl
 
 -- two places that differ: "n = 2 without entries", bytes 02 00 00, has two closed sets and prints "refused 6 0 1"
 pub two-sets : reportOf (2 ∷ 0 ∷ 0 ∷ [])
     ≡ 114 ∷ 101 ∷ 102 ∷ 117 ∷ 115 ∷ 101 ∷ 100 ∷ 32 ∷ 54 ∷ 32 ∷ 48 ∷ 32 ∷ 49 ∷ 10 ∷ []
-unfolding reportOf solvedText solved fileChecked rowChecked bitAt
+unfolding reportOf solvedText solved fileChecked rowChecked marksChecked formIn orderIn bitAt
     checked rulesChecked startsSound columnsChecked zerosChecked rateIn answered oneClosed firstLowest secondLowest isLowest settles all via sum
     refusedLine decimal decimalDigits
 two-sets = refl
@@ -60,13 +61,13 @@ unfolding reportOf solvedText headerLine stateLine stateLines signed decimal dec
     bitLengthUpTo bitLength isScaledAt upward carried nearest roundedSum roundedProduct roundedQuotient converted sumOf productOf quotientOf rateOf
     all boundCount checked rulesChecked startsSound columnsChecked entryBad zerosChecked rateIn via sum
     answered oneClosed setOf firstLowest secondLowest lowestSet isLowest settles
-    bitAt storedRate fileChecked rowChecked rateChecked
+    bitAt shortRate storedRate fileChecked rowChecked marksChecked rateChecked markChecked formIn orderIn
 printed = refl
 
 -- "Case 6 becomes 14, (0, 1)": bytes 02 02 00 00 00 00 01 05 00 00 00 print "refused 14 0 1"
 pub zero-rate : reportOf (2 ∷ 2 ∷ 0 ∷ 0 ∷ 0 ∷ 0 ∷ 1 ∷ 5 ∷ 0 ∷ 0 ∷ 0 ∷ [])
     ≡ 114 ∷ 101 ∷ 102 ∷ 117 ∷ 115 ∷ 101 ∷ 100 ∷ 32 ∷ 49 ∷ 52 ∷ 32 ∷ 48 ∷ 32 ∷ 49 ∷ 10 ∷ []
-unfolding reportOf fileChecked rowChecked rateChecked bitAt storedRate refusedLine decimal decimalDigits
+unfolding reportOf fileChecked rowChecked marksChecked rateChecked markChecked formIn orderIn bitAt shortRate storedRate refusedLine decimal decimalDigits
 zero-rate = refl
 
 -- case 7, "n = 3, 0 to 1 and 1 to 0 and 2 to 0, all rate 1", as R-3 has it: "states 3 bound 8", "0 2147483648 -31 2147483648 -32",
@@ -85,7 +86,7 @@ unfolding reportOf solvedText headerLine stateLine stateLines signed decimal dec
     bitLength isScaledAt upward carried nearest roundedSum roundedProduct roundedQuotient converted sumOf productOf quotientOf rateOf
     all boundCount checked rulesChecked startsSound columnsChecked entryBad zerosChecked rateIn via sum
     answered oneClosed setOf firstLowest secondLowest lowestSet isLowest settles
-    bitAt storedRate fileChecked rowChecked rateChecked
+    bitAt shortRate storedRate fileChecked rowChecked marksChecked rateChecked markChecked formIn orderIn
 zero-outside = refl
 
 -- ---- the closing theorem, of the bytes of `printed`
@@ -103,7 +104,7 @@ two-fits i = go (decLt i 11)
 
 -- its closed set has both states: what is printed for them lies within 8 and 18 factors of exact weights that balance the chain
 pub printed-bounds : Printed two 8
-unfolding solved countOf setSize size count fileChecked rowChecked rateChecked bitAt storedRate
+unfolding solved countOf setSize size count fileChecked rowChecked marksChecked rateChecked markChecked formIn orderIn bitAt shortRate storedRate
     checked rulesChecked startsSound columnsChecked entryBad zerosChecked rateIn
     answered oneClosed setOf firstLowest secondLowest lowestSet isLowest settles all via sum boundCount
 printed-bounds = end-to-end two two-fits {e = 2} {K = 8} refl refl

@@ -12,7 +12,7 @@ use Rattle.refusal.specs.Table.{Side, Verdict, accepts, refuses}
 use Rattle.refusal.specs.declared.Line.{Line}
 use Rattle.checking.specs.Sound.{zerosRefused}
 use Rattle.checking.specs.Verdict.{fileChecked}
-use Rattle.storage.proofs.Passes.{file-small}
+use Rattle.storage.proofs.Passes.{file-small-both}
 use Rattle.storage.proofs.Prefix.{Agree, file-same}
 use Rattle.layout.specs.File.{enoughBytes}
 use Rattle.report.specs.Report.{textAfter, reportOf}
@@ -25,7 +25,7 @@ prefix-decides zeros text same bytes = go (leb (length bytes) enoughBytes) refl
   where
     -- a longer input is refused, by the same line
     refused : enoughBytes < length bytes → (v : Verdict ℕ) → fileChecked zeros bytes ≡ v → text (take enoughBytes bytes) v ≡ text bytes v
-    refused l (accepts e) q = absurd (omega (arith, file-small zeros bytes e q))
+    refused l (accepts e) q = absurd (omega (arith, file-small-both zeros bytes e q))
     refused l (refuses side line) q = same (take enoughBytes bytes) bytes side line
 
     agree : enoughBytes < length bytes → Agree enoughBytes (take enoughBytes bytes) bytes

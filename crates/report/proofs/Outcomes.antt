@@ -16,6 +16,7 @@ use Rattle.kernel.specs.Slices.{numberAt}
 use Rattle.kernel.proofs.Cells.{square}
 use Rattle.storage.specs.declared.Reading.{Reading}
 use Rattle.storage.specs.declared.Reading.the-variants as reading
+use Rattle.layout.specs.declared.Form.{Form}
 use Rattle.storage.specs.Reading.{Stored, told, Read}
 use Rattle.layout.specs.Buffers.{Buffers, mostStarts, mostEntries, chainIn}
 use Rattle.checking.specs.Sound.{zerosRefused}
@@ -122,9 +123,9 @@ module _ {bytes : List ℕ} {old new : Buffers} {r : Reading} (d : Read zerosRef
   unfolding reportOf
   unread-text q = rw (file-refused d a b c q)
 
-  module _ {n entries : ℕ} (q : r ≡ reading.Chain n entries) where
-    left : Stored zerosRefused (chainIn new n entries) entries bytes
-    left = d .stored n entries (ap told q)
+  module _ {n entries : ℕ} {form : Form} (q : r ≡ reading.Chain n entries form) where
+    left : Stored zerosRefused form (chainIn new n entries) entries bytes
+    left = d .stored n entries form (ap told q)
 
     pub order-low : n ≤ 64
     order-low = accepted-sound (chainIn new n entries) (left .passes) .order .high

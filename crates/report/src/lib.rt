@@ -80,9 +80,11 @@ pub fn report(bytes: &[u8], out: &mut [u8]) -> usize
     let mut columns = [0u32; layout::MOST_ENTRIES];
     let mut rates = [0u32; layout::MOST_ENTRIES];
     match storage::read(bytes, &mut starts, &mut columns, &mut rates) {
-        Reading::Chain { order, entries } => {
-            put_chain(out, order, entries, &starts, &columns, &rates)
-        }
+        Reading::Chain {
+            order,
+            entries,
+            form: _,
+        } => { put_chain(out, order, entries, &starts, &columns, &rates) }
         Reading::Refused(refusal) => refused::put_refusal(out, refusal),
     }
 }

@@ -7,6 +7,7 @@ use Rattle.refusal.specs.Table.{Verdict, verdict}
 use Rattle.chain.specs.Rows.{Rows}
 use Rattle.checking.specs.Sound.{zerosRefused}
 use Rattle.storage.specs.declared.Reading.{Reading}
+use Rattle.layout.specs.declared.Form.{Form}
 use Rattle.layout.specs.Buffers.{Buffers}
 use Rattle.storage.specs.Reading.{told, Read}
 use Rattle.storage.specs.Writing.{Written}
@@ -29,10 +30,10 @@ module _ {answer : List ℕ} {r : ℕ} {answer′ : List ℕ} where
 
   pub read-called : {bytes : List ℕ} {old : Buffers} {o : Reading} {new : Buffers} → Read zerosRefused bytes old o new → ReadingTold (told o) answer r answer′
       → ReadCalled bytes old answer r new answer′
-  read-called {o = o} s t = record { outcome = o; call = s; told = subst (λ (v : Verdict (ℕ × ℕ)). ReadingTold v answer r answer′) (s .answer) t }
+  read-called {o = o} s t = record { outcome = o; call = s; told = subst (λ (v : Verdict (ℕ × ℕ × Form)). ReadingTold v answer r answer′) (s .answer) t }
 
-  pub write-called : {c : Rows} {out : List ℕ} {o : Outcome} {out′ : List ℕ} → Written c out o out′ → CountTold (verdict o) answer r answer′
-      → WriteCalled c out answer r out′ answer′
+  pub write-called : {form : Form} {c : Rows} {out : List ℕ} {o : Outcome} {out′ : List ℕ} → Written form c out o out′ → CountTold (verdict o) answer r answer′
+      → WriteCalled form c out answer r out′ answer′
   write-called {o = o} s t = record { outcome = o; call = s; told = subst (λ (v : Verdict ℕ). CountTold v answer r answer′) (s .answer) t }
 
   pub join-called : {first second : Rows} {old : Buffers} {o : Joining} {new : Buffers} → Joins first second old o new → JoiningTold (toldJoining o) answer r answer′

@@ -7,9 +7,12 @@ use lib.ListN.{replicate}
 use Rattle.refusal.specs.Table.{accepts}
 use Rattle.chain.specs.Rows.{Rows, rows}
 use Rattle.chain.specs.Rules.{startsSound, entryBad, columnsChecked, rulesChecked, zerosChecked, checked}
-use Rattle.layout.specs.Bytes.{bitAt, storedRate}
+use Rattle.layout.specs.declared.Form.{Form}
+use Rattle.layout.specs.declared.Form.the-variants.{One, Two}
+use Rattle.layout.specs.Forms.{formIn, orderIn}
+use Rattle.layout.specs.Bytes.{bitAt, shortRate, storedRate}
 use Rattle.layout.specs.Buffers.{Buffers, buffers}
-use Rattle.checking.specs.Verdict.{rateChecked, rowChecked, fileChecked, roomToRead, readVerdict}
+use Rattle.checking.specs.Verdict.{marksChecked, markChecked, rateChecked, rowChecked, fileChecked, roomToRead, readVerdict}
 use Rattle.storage.specs.Writing.{writeVerdict}
 use Rattle.joined.specs.Verdict.{joinVerdict}
 use Rattle.joined.proofs.Cases.{two, zero-rate, two-ring, room-for-two-ring}
@@ -58,30 +61,57 @@ module _ {r : ℕ} {answer′ : List ℕ} where
   -- case 6's bytes: 14, of the bytes; all is kept
   pub zero-rate-read : {old new : Buffers} → ReadCalled (2 ∷ 2 ∷ 0 ∷ 0 ∷ 0 ∷ 0 ∷ 1 ∷ 5 ∷ 0 ∷ 0 ∷ 0 ∷ []) old (sevens 4) r new answer′
       → (r ≡ 14) × (answer′ ≡ 0 ∷ 1 ∷ 1 ∷ 7 ∷ []) × (new .starts ≡ old .starts) × (new .columns ≡ old .columns) × (new .rates ≡ old .rates)
-  unfolding readVerdict fileChecked rowChecked rateChecked bitAt storedRate handed
+  unfolding readVerdict fileChecked rowChecked marksChecked rateChecked markChecked formIn orderIn bitAt storedRate handed
   zero-rate-read c =
       let a = c .call .answer in
       (c .told .returned, c .told .answer-is, rw a at (c .call .starts-are), rw a at (c .call .columns-are), rw a at (c .call .rates-are))
 
-  -- case 2's bytes: order 2 and two entries
+  -- case 2's bytes: order 2, two entries, form 1
   pub two-read : {new : Buffers}
       → ReadCalled (2 ∷ 2 ∷ 3 ∷ 0 ∷ 0 ∷ 0 ∷ 1 ∷ 1 ∷ 0 ∷ 0 ∷ 0 ∷ []) (buffers (sevens 3) (sevens 3) (sevens 2)) (sevens 4) r new answer′
-      → (r ≡ 0) × (answer′ ≡ 2 ∷ 2 ∷ 0 ∷ 7 ∷ []) × (new .starts ≡ 0 ∷ 1 ∷ 2 ∷ []) × (new .columns ≡ 1 ∷ 0 ∷ 7 ∷ []) × (new .rates ≡ 3 ∷ 1 ∷ [])
-  unfolding readVerdict fileChecked rowChecked rateChecked bitAt storedRate roomToRead handed
+      → (r ≡ 0) × (answer′ ≡ 2 ∷ 2 ∷ 1 ∷ 7 ∷ []) × (new .starts ≡ 0 ∷ 1 ∷ 2 ∷ []) × (new .columns ≡ 1 ∷ 0 ∷ 7 ∷ []) × (new .rates ≡ 3 ∷ 1 ∷ [])
+  unfolding readVerdict fileChecked rowChecked marksChecked rateChecked markChecked formIn orderIn bitAt storedRate roomToRead handed
   two-read c =
       let a = c .call .answer in
       (c .told .returned, c .told .answer-is, rw a at (c .call .starts-are), rw a at (c .call .columns-are), rw a at (c .call .rates-are))
 
-  -- ---- stall_write
+  -- the same in form 2
+  pub two-short-read : {new : Buffers}
+      → ReadCalled (130 ∷ 2 ∷ 2 ∷ 3 ∷ 0 ∷ 1 ∷ 1 ∷ 1 ∷ 0 ∷ []) (buffers (sevens 3) (sevens 3) (sevens 2)) (sevens 4) r new answer′
+      → (r ≡ 0) × (answer′ ≡ 2 ∷ 2 ∷ 2 ∷ 7 ∷ []) × (new .starts ≡ 0 ∷ 1 ∷ 2 ∷ []) × (new .columns ≡ 1 ∷ 0 ∷ 7 ∷ []) × (new .rates ≡ 3 ∷ 1 ∷ [])
+  unfolding readVerdict fileChecked rowChecked marksChecked rateChecked markChecked formIn orderIn bitAt shortRate roomToRead handed
+  two-short-read c =
+      let a = c .call .answer in
+      (c .told .returned, c .told .answer-is, rw a at (c .call .starts-are), rw a at (c .call .columns-are), rw a at (c .call .rates-are))
 
-  -- case 2: 11 bytes
-  pub two-written : {out′ : List ℕ} → WriteCalled two (sevens 12) (sevens 4) r out′ answer′
+  -- an unmarked rate below 65,536 in row 1: 16, of the bytes; all is kept
+  pub unmarked-read : {old new : Buffers} → ReadCalled (131 ∷ 0 ∷ 0 ∷ 4 ∷ 0 ∷ 3 ∷ 0 ∷ 0 ∷ 0 ∷ []) old (sevens 4) r new answer′
+      → (r ≡ 16) × (answer′ ≡ 1 ∷ 2 ∷ 1 ∷ 7 ∷ []) × (new .starts ≡ old .starts) × (new .columns ≡ old .columns) × (new .rates ≡ old .rates)
+  unfolding readVerdict fileChecked rowChecked marksChecked rateChecked markChecked formIn orderIn bitAt storedRate handed
+  unmarked-read c =
+      let a = c .call .answer in
+      (c .told .returned, c .told .answer-is, rw a at (c .call .starts-are), rw a at (c .call .columns-are), rw a at (c .call .rates-are))
+
+  -- ---- stall_write and stall_write_short
+
+  -- case 2: 11 bytes in form 1, nine in form 2
+  pub two-written : {out′ : List ℕ} → WriteCalled One two (sevens 12) (sevens 4) r out′ answer′
       → (r ≡ 0) × (answer′ ≡ 11 ∷ 0 ∷ 0 ∷ 7 ∷ []) × (out′ ≡ 2 ∷ 2 ∷ 3 ∷ 0 ∷ 0 ∷ 0 ∷ 1 ∷ 1 ∷ 0 ∷ 0 ∷ 0 ∷ 7 ∷ [])
   unfolding writeVerdict checked rulesChecked zerosChecked startsSound columnsChecked entryBad handed
   two-written c = (c .told .returned, c .told .answer-is, rw (c .call .answer) at (c .call .out-is))
 
+  pub two-short-written : {out′ : List ℕ} → WriteCalled Two two (sevens 12) (sevens 4) r out′ answer′
+      → (r ≡ 0) × (answer′ ≡ 9 ∷ 0 ∷ 0 ∷ 7 ∷ []) × (out′ ≡ 130 ∷ 2 ∷ 2 ∷ 3 ∷ 0 ∷ 1 ∷ 1 ∷ 1 ∷ 0 ∷ 7 ∷ 7 ∷ 7 ∷ [])
+  unfolding writeVerdict checked rulesChecked zerosChecked startsSound columnsChecked entryBad handed
+  two-short-written c = (c .told .returned, c .told .answer-is, rw (c .call .answer) at (c .call .out-is))
+
+  -- a byte too few for form 2: 5, of the chain
+  pub two-short-no-room : {out′ : List ℕ} → WriteCalled Two two (sevens 8) (sevens 4) r out′ answer′ → (r ≡ 5) × (answer′ ≡ 0 ∷ 0 ∷ 0 ∷ 7 ∷ []) × (out′ ≡ sevens 8)
+  unfolding writeVerdict checked rulesChecked zerosChecked startsSound columnsChecked entryBad handed
+  two-short-no-room c = (c .told .returned, c .told .answer-is, rw (c .call .answer) at (c .call .out-is))
+
   -- case 6: 14, of the chain
-  pub zero-rate-written : {out out′ : List ℕ} → WriteCalled zero-rate out (sevens 4) r out′ answer′
+  pub zero-rate-written : {form : Form} {out out′ : List ℕ} → WriteCalled form zero-rate out (sevens 4) r out′ answer′
       → (r ≡ 14) × (answer′ ≡ 0 ∷ 1 ∷ 0 ∷ 7 ∷ []) × (out′ ≡ out)
   unfolding writeVerdict checked rulesChecked zerosChecked startsSound columnsChecked entryBad handed
   zero-rate-written c = (c .told .returned, c .told .answer-is, rw (c .call .answer) at (c .call .out-is))

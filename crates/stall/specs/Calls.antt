@@ -6,6 +6,7 @@ use lib.ListN.{length}
 use Rattle.refusal.specs.declared.Outcome.{Outcome}
 use Rattle.chain.specs.Rows.{Rows}
 use Rattle.storage.specs.declared.Reading.{Reading}
+use Rattle.layout.specs.declared.Form.{Form}
 use Rattle.layout.specs.Buffers.{Buffers}
 use Rattle.checking.specs.Sound.{zerosRefused}
 use Rattle.checking.specs.Verdict.{readVerdict}
@@ -34,10 +35,10 @@ pub record ReadCalled (bytes : List ℕ) (old : Buffers) (answer : List ℕ) (r 
   pub call : Read zerosRefused bytes old outcome new
   pub told : ReadingTold (readVerdict zerosRefused bytes (length (old .starts)) (length (old .columns)) (length (old .rates))) answer r answer′
 
-pub record WriteCalled (c : Rows) (out answer : List ℕ) (r : ℕ) (out′ answer′ : List ℕ) : Type 0 where
+pub record WriteCalled (form : Form) (c : Rows) (out answer : List ℕ) (r : ℕ) (out′ answer′ : List ℕ) : Type 0 where
   pub outcome : Outcome
-  pub call : Written c out outcome out′
-  pub told : CountTold (writeVerdict c (length out)) answer r answer′
+  pub call : Written form c out outcome out′
+  pub told : CountTold (writeVerdict form c (length out)) answer r answer′
 
 pub record JoinCalled (first second : Rows) (old : Buffers) (answer : List ℕ) (r : ℕ) (new : Buffers) (answer′ : List ℕ) : Type 0 where
   pub outcome : Joining

@@ -5,6 +5,7 @@ ghost use Rattle.layout.specs.Buffers.{inBuffers};
 ghost use Rattle.solver.specs.Lent.{lent};
 ghost use Rattle.group_shares.specs.GroupShares.{groupLent};
 ghost use Rattle.stall.specs.Calls.{SolveCalled, GroupsCalled, ReadCalled, WriteCalled, JoinCalled};
+use layout::Form;
 
 // Solves a chain, as `solver::solve` does: the answer's first place is the bound count.
 #[no_mangle]
@@ -69,7 +70,7 @@ pub extern "C" fn stall_solve_groups(
     telling::tell_count(outcome, answer)
 }
 
-// Reads a stored chain, as `storage::read` does: the answer's first two places are the order and the number of entries.
+// Reads a stored chain, as `storage::read` does: the answer's places are the order, the number of entries and the number of the form.
 #[no_mangle]
 pub extern "C" fn stall_read(
     bytes: &[u8],
@@ -85,7 +86,7 @@ pub extern "C" fn stall_read(
     telling::tell_reading(reading, answer)
 }
 
-// Stores a chain, as `storage::write` does: the answer's first place is the number of bytes.
+// Stores a chain, in form 1, as `storage::write` does: the answer's first place is the number of bytes.
 #[no_mangle]
 pub extern "C" fn stall_write(
     n: usize,
@@ -95,10 +96,27 @@ pub extern "C" fn stall_write(
     out: &mut [u8],
     answer: &mut [usize],
 ) -> u32
-    ensures { λ r. ⌜ WriteCalled (inRows n (starts .entry) (columns .entry) (rates .entry)) (now (out .entry)) (now (answer .entry)) r
+    ensures { λ r. ⌜ WriteCalled Form.One (inRows n (starts .entry) (columns .entry) (rates .entry)) (now (out .entry)) (now (answer .entry)) r
         (now (out .exit)) (now (answer .exit)) ⌝ }
 {
-    let outcome = storage::write(n, starts, columns, rates, out);
+    let outcome = storage::write(Form::One, n, starts, columns, rates, out);
+    telling::tell_count(outcome, answer)
+}
+
+// Stores a chain, in form 2, as `storage::write` does: the answer's first place is the number of bytes.
+#[no_mangle]
+pub extern "C" fn stall_write_short(
+    n: usize,
+    starts: &[u32],
+    columns: &[u32],
+    rates: &[u32],
+    out: &mut [u8],
+    answer: &mut [usize],
+) -> u32
+    ensures { λ r. ⌜ WriteCalled Form.Two (inRows n (starts .entry) (columns .entry) (rates .entry)) (now (out .entry)) (now (answer .entry)) r
+        (now (out .exit)) (now (answer .exit)) ⌝ }
+{
+    let outcome = storage::write(Form::Two, n, starts, columns, rates, out);
     telling::tell_count(outcome, answer)
 }
 

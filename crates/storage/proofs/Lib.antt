@@ -1,6 +1,7 @@
 -- Laws of stored chains, and the theorems of reading and writing.
 pub mod Holding
 pub mod MapBits
+pub mod Marks
 pub mod ReadWrite
 pub mod WriteRead
 pub mod Passes

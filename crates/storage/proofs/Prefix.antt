@@ -1,6 +1,6 @@
 -- The verdict on a file rests on its first `enoughBytes` bytes: where there are more, bytes are left over. Assumes nothing.
 use Prim.Native.Nat.{ℕ, zero, suc, _+_, _-_, _*_, _/_, _≤_, _<_}
-use mathlib.Core.Bool.{Bool, true, false, cond, _||_}
+use mathlib.Core.Bool.{Bool, true, false, cond}
 use mathlib.Core.List.{List, [], _∷_}
 use mathlib.Core.Path.{_≡_, refl}
 use native.Mathlib.Nat.{mul-le-mul, suc-mul}
@@ -12,12 +12,16 @@ use Rattle.basics.proofs.FirstLaws.{firstOf-cong}
 use Rattle.chain.specs.Rules.{orderSound}
 use Rattle.chain.proofs.SoundLaws.{order-true}
 use Rattle.refusal.specs.Table.{Verdict, accepts, refuses, andThen}
-use Rattle.layout.specs.Bytes.{mapBytes, bitAt, holding, storedColumns, storedCount, storedRate, orderOf}
+use Rattle.layout.specs.declared.Form.{Form}
+use Rattle.layout.specs.declared.Form.the-variants.{One, Two}
+use Rattle.layout.specs.Forms.{width}
+use Rattle.layout.specs.Bytes.{mapBytes, mapsOf, bitAt, marked, holding, storedColumns, storedCount, shortRate, storedRate, rateAt, formOf, orderOf}
 use Rattle.layout.specs.File.{enoughBytes}
-use Rattle.checking.specs.Verdict.{badBit, firstBadBit, bytesRefused, rateChecked, ratesChecked, rowChecked, rowsChecked, fileChecked}
-use Rattle.checking.proofs.Checks.{row-is}
+use Rattle.layout.proofs.Rates.{width-high, maps-low, maps-high, widths-high}
+use Rattle.checking.specs.Verdict.{badBit, firstBadBit, looseBit, firstLooseBit, bytesRefused, rateChecked, ratesChecked, marksChecked, rowChecked, rowsChecked, fileChecked}
+use Rattle.checking.proofs.Checks.{rate-is, marks-are, row-is}
+use Rattle.storage.proofs.Holding.{held}
 use Rattle.storage.proofs.Passes.{row-few}
-use Rattle.packing.proofs.Storing.{maps-le}
 
 -- ---- tests that agree
 
@@ -42,23 +46,43 @@ module _ {k : ℕ} {s t : List ℕ} (a : Agree k s t) where
   rate-same place h =
       rw (a .same place (omega arith), a .same (place + 1) (omega arith), a .same (place + 2) (omega arith), a .same (place + 3) (omega arith))
 
-  rates-same : (zeros : Bool) (row : ℕ) (columns : List ℕ) (place : ℕ) → place + 4 * length columns ≤ k
-      → ratesChecked zeros s row columns place ≡ ratesChecked zeros t row columns place
-  unfolding rateChecked
-  rates-same zeros row [] place h = refl
-  rates-same zeros row (column ∷ columns) place h =
-      rw (
-        le-leb (place + 4) (length s) (omega (arith, a .long-s)),
-        le-leb (place + 4) (length t) (omega (arith, a .long-t)),
-        rate-same place (omega arith),
-      )
-      (go (zeros || ltb 0 (storedRate t place)) (rates-same zeros row columns (place + 4) (omega arith)))
-    where
-      go : (b : Bool) → ratesChecked zeros s row columns (place + 4) ≡ ratesChecked zeros t row columns (place + 4)
-          → andThen (cond b (accepts (place + 4)) (bytesRefused 14 row column)) (λ next. ratesChecked zeros s row columns next)
-          ≡ andThen (cond b (accepts (place + 4)) (bytesRefused 14 row column)) (λ next. ratesChecked zeros t row columns next)
-      go true e = e
-      go false e = refl
+  short-same : (place : ℕ) → place + 2 ≤ k → shortRate s place ≡ shortRate t place
+  unfolding shortRate
+  short-same place h = rw (a .same place (omega arith), a .same (place + 1) (omega arith))
+
+  at-same : (b : Bool) (place : ℕ) → place + width b ≤ k → rateAt b s place ≡ rateAt b t place
+  at-same true place h = short-same place h
+  at-same false place h = rate-same place h
+
+  module _ (zeros : Bool) (form : Form) (row : ℕ) where
+    rate-checked : (column : ℕ) (b : Bool) (place : ℕ) → place + width b ≤ k → rateChecked zeros form s row column b place ≡ rateChecked zeros form t row column b place
+    unfolding rateChecked
+    rate-checked column b place h =
+        rw (
+          le-leb (place + width b) (length s) (omega (arith, a .long-s)),
+          le-leb (place + width b) (length t) (omega (arith, a .long-t)),
+          at-same b place h,
+        )
+
+    -- marks that agree at these columns
+    rates-same : (marks marks′ : ℕ → Bool) (columns : List ℕ) (place : ℕ) → ((i : ℕ) → i < length columns → marks (getD columns i 0) ≡ marks′ (getD columns i 0))
+        → place + 4 * length columns ≤ k
+        → ratesChecked zeros form s row marks columns place ≡ ratesChecked zeros form t row marks′ columns place
+    rates-same marks marks′ [] place e h = refl
+    rates-same marks marks′ (column ∷ columns) place e h =
+        let w = width-high (marks′ column) in
+        rw (e 0 (omega arith), rate-checked column (marks′ column) place (omega arith))
+        (go (rateChecked zeros form t row column (marks′ column) place) refl
+        (λ next l. rates-same marks marks′ columns next (λ i q. e (suc i) (omega arith)) l))
+      where
+        go : (v : Verdict ℕ) → rateChecked zeros form t row column (marks′ column) place ≡ v
+            → ((next : ℕ) → next + 4 * length columns ≤ k → ratesChecked zeros form s row marks columns next ≡ ratesChecked zeros form t row marks′ columns next)
+            → andThen v (λ next. ratesChecked zeros form s row marks columns next) ≡ andThen v (λ next. ratesChecked zeros form t row marks′ columns next)
+        go (accepts next) q ih =
+            let w = width-high (marks′ column) in
+            let r = rate-is zeros form t row column (marks′ column) place next q in
+            ih next (omega (arith, r .end))
+        go (refuses side line) q ih = refl
 
   module _ (n map : ℕ) (h : map + mapBytes n ≤ k) where
     columns-same : storedColumns s n map ≡ storedColumns t n map
@@ -68,36 +92,76 @@ module _ {k : ℕ} {s t : List ℕ} (a : Agree k s t) where
     bad-same row =
         firstOf-cong (badBit s n row map) (badBit t n row map) (8 * mapBytes n - 0) 0 (λ j x y. rw (bit-same map j (omega arith)))
 
-    row-same : (zeros : Bool) (row : ℕ) → row < n → map + mapBytes n + 4 * (n - 1) ≤ k → rowChecked zeros s n row map ≡ rowChecked zeros t n row map
+    loose-same : map + (mapBytes n + mapBytes n) ≤ k → firstLooseBit s n map ≡ firstLooseBit t n map
+    loose-same l =
+        firstOf-cong (looseBit s n map) (looseBit t n map) (8 * mapBytes n - 0) 0
+        (λ j x y. rw (bit-same map j (omega arith), bit-same (map + mapBytes n) j (omega arith)))
+
+    marks-same : (form : Form) (row : ℕ) → map + mapsOf form n ≤ k → marksChecked form s n row map ≡ marksChecked form t n row map
+    unfolding marksChecked
+    marks-same One row l = refl
+    marks-same Two row l =
+        rw (
+          le-leb (map + (mapBytes n + mapBytes n)) (length s) (omega (arith, a .long-s)),
+          le-leb (map + (mapBytes n + mapBytes n)) (length t) (omega (arith, a .long-t)),
+          loose-same l,
+        )
+
+    marked-same : (form : Form) → map + mapsOf form n ≤ k → (j : ℕ) → j < n → marked form s n map j ≡ marked form t n map j
+    marked-same One l j q = refl
+    marked-same Two l j q = bit-same (map + mapBytes n) j (omega arith)
+
+    row-same : (zeros : Bool) (form : Form) (row : ℕ) → row < n → map + mapsOf form n + 4 * (n - 1) ≤ k → rowChecked zeros form s n row map ≡ rowChecked zeros form t n row map
     unfolding rowChecked
-    row-same zeros row l room =
-        rw (le-leb (map + mapBytes n) (length s) (omega (arith, a .long-s)), le-leb (map + mapBytes n) (length t) (omega (arith, a .long-t)), bad-same row, columns-same)
+    row-same zeros form row l room =
+        rw (
+          le-leb (map + mapBytes n) (length s) (omega (arith, a .long-s)),
+          le-leb (map + mapBytes n) (length t) (omega (arith, a .long-t)),
+          bad-same row,
+          columns-same,
+          marks-same form row (omega arith),
+        )
         (go (ltb (firstBadBit t n row map) (8 * mapBytes n)) refl)
       where
+        after : ltb (firstBadBit t n row map) (8 * mapBytes n) ≡ false → (v : Verdict ℕ) → marksChecked form t n row map ≡ v
+            → andThen v (λ place. ratesChecked zeros form s row (marked form s n map) (storedColumns t n map) place)
+            ≡ andThen v (λ place. ratesChecked zeros form t row (marked form t n map) (storedColumns t n map) place)
+        after e (accepts place) m =
+            let few = row-few form t n row map e l in
+            let q = marks-are t n row map form place m in
+            rates-same zeros form row (marked form s n map) (marked form t n map) (storedColumns t n map) place
+            (λ i x. marked-same form (omega arith) _ (omega (arith, held (bitAt t map) (n - 0) 0 i x .high)))
+            (omega (arith, few, q .end))
+        after e (refuses side line) m = refl
+
         go : (bad : Bool) → ltb (firstBadBit t n row map) (8 * mapBytes n) ≡ bad
-            → cond bad (bytesRefused 9 row (firstBadBit t n row map)) (ratesChecked zeros s row (storedColumns t n map) (map + mapBytes n))
-            ≡ cond bad (bytesRefused 9 row (firstBadBit t n row map)) (ratesChecked zeros t row (storedColumns t n map) (map + mapBytes n))
+            → cond bad (bytesRefused 9 row (firstBadBit t n row map))
+            (andThen (marksChecked form t n row map) (λ place. ratesChecked zeros form s row (marked form s n map) (storedColumns t n map) place))
+            ≡ cond bad (bytesRefused 9 row (firstBadBit t n row map))
+            (andThen (marksChecked form t n row map) (λ place. ratesChecked zeros form t row (marked form t n map) (storedColumns t n map) place))
         go true e = refl
-        go false e =
-            let few = row-few t n row map e l in
-            rates-same zeros row (storedColumns t n map) (map + mapBytes n) (omega (arith, few))
+        go false e = after e (marksChecked form t n row map) refl
 
   -- each row takes at most w bytes, and all that the rows take is inside
-  rows-same : (zeros : Bool) (n w : ℕ) → w ≡ mapBytes n + 4 * (n - 1) → (j row map p : ℕ) → row + j ≤ n → map + j * w < k
-      → rowsChecked zeros s n j row map p ≡ rowsChecked zeros t n j row map p
-  rows-same zeros n w q zero row map p l h =
+  rows-same : (zeros : Bool) (form : Form) (n w : ℕ) → w ≡ mapsOf form n + 4 * (n - 1) → (j row map p : ℕ) → row + j ≤ n → map + j * w < k
+      → rowsChecked zeros form s n j row map p ≡ rowsChecked zeros form t n j row map p
+  rows-same zeros form n w q zero row map p l h =
       rw (ne-eqb map (length s) (λ e. omega (arith, a .long-s)), ne-eqb map (length t) (λ e. omega (arith, a .long-t)))
-  rows-same zeros n w q (suc j) row map p l h =
+  rows-same zeros form n w q (suc j) row map p l h =
+      let low = maps-low form n in
       let room : map + w + j * w < k = omega (arith, suc-mul j w) in
-      rw (row-same n map (omega arith) zeros row (omega arith) (omega arith), columns-same n map (omega arith))
-      (go (rowChecked zeros t n row map) refl (λ next b. rows-same zeros n w q j (row + 1) next (p + storedCount t n map) (omega arith) (omega arith)))
+      rw (row-same n map (omega arith) zeros form row (omega arith) (omega arith), columns-same n map (omega arith))
+      (go (rowChecked zeros form t n row map) refl (λ next b. rows-same zeros form n w q j (row + 1) next (p + storedCount t n map) (omega arith) (omega arith)))
     where
-      go : (v : Verdict ℕ) → rowChecked zeros t n row map ≡ v
-          → ((next : ℕ) → next ≤ map + w → rowsChecked zeros s n j (row + 1) next (p + storedCount t n map) ≡ rowsChecked zeros t n j (row + 1) next (p + storedCount t n map))
-          → andThen v (λ next. rowsChecked zeros s n j (row + 1) next (p + storedCount t n map)) ≡ andThen v (λ next. rowsChecked zeros t n j (row + 1) next (p + storedCount t n map))
+      go : (v : Verdict ℕ) → rowChecked zeros form t n row map ≡ v
+          → ((next : ℕ) → next ≤ map + w
+          → rowsChecked zeros form s n j (row + 1) next (p + storedCount t n map) ≡ rowsChecked zeros form t n j (row + 1) next (p + storedCount t n map))
+          → andThen v (λ next. rowsChecked zeros form s n j (row + 1) next (p + storedCount t n map))
+          ≡ andThen v (λ next. rowsChecked zeros form t n j (row + 1) next (p + storedCount t n map))
       go (accepts next) e ih =
-          let is = row-is zeros t n row map next e in
-          ih next (omega (arith, is .end, row-few t n row map (is .clean) (omega arith)))
+          let is = row-is zeros form t n row map next e in
+          let wide = widths-high (marked form t n map) (storedColumns t n map) in
+          ih next (omega (arith, is .end, row-few form t n row map (is .clean) (omega arith)))
       go (refuses side line) e ih = refl
 
 -- ---- a whole file
@@ -109,11 +173,12 @@ file-same zeros {s} {t} a =
     (go (orderSound (orderOf t)) refl)
   where
     go : (b : Bool) → orderSound (orderOf t) ≡ b
-        → cond b (rowsChecked zeros s (orderOf t) (orderOf t) 0 1 0) (bytesRefused 1 0 0) ≡ cond b (rowsChecked zeros t (orderOf t) (orderOf t) 0 1 0) (bytesRefused 1 0 0)
+        → cond b (rowsChecked zeros (formOf t) s (orderOf t) (orderOf t) 0 1 0) (bytesRefused 1 0 0)
+        ≡ cond b (rowsChecked zeros (formOf t) t (orderOf t) (orderOf t) 0 1 0) (bytesRefused 1 0 0)
     go false e = refl
     go true e =
         let o = order-true (orderOf t) e in
-        let maps = maps-le (orderOf t) (o .high) in
-        let less : orderOf t - 1 ≤ 63 = omega (arith, o .high) in
-        let rates : orderOf t * (orderOf t - 1) ≤ 64 * 63 = mul-le-mul (o .high) less in
-        rows-same a zeros (orderOf t) _ refl (orderOf t) 0 1 0 (omega arith) (omega (arith, maps, rates))
+        let high = maps-high (formOf t) (orderOf t) in
+        let most : mapsOf (formOf t) (orderOf t) + 4 * (orderOf t - 1) ≤ 268 = omega (arith, o .high) in
+        let all : orderOf t * (mapsOf (formOf t) (orderOf t) + 4 * (orderOf t - 1)) ≤ 64 * 268 = mul-le-mul (o .high) most in
+        rows-same a zeros (formOf t) (orderOf t) _ refl (orderOf t) 0 1 0 (omega arith) (omega (arith, all))

@@ -3,7 +3,7 @@
 use Prim.Native.Nat.{ℕ, _≤_}
 use mathlib.Core.Bool.{Bool, true}
 use mathlib.Core.List.{List}
-use mathlib.Core.Path.{_≡_, refl, sym, ap, _∙_}
+use mathlib.Core.Path.{_≡_, refl, sym, ap, ap₂, _∙_}
 use native.Mathlib.Omega.{arith}
 use lib.Dec.{leb}
 use lib.ListN.{length, take}
@@ -11,7 +11,8 @@ use borrow.Author.Tests.{le-leb}
 use Rattle.chain.specs.Rows.{Rows}
 use Rattle.refusal.specs.Table.{Verdict, accepts, refuses, side, line, refusal, verdict, andThen}
 use Rattle.refusal.specs.declared.Refusal.{Refusal}
-use Rattle.layout.specs.Bytes.{orderOf}
+use Rattle.layout.specs.declared.Form.{Form}
+use Rattle.layout.specs.Bytes.{formOf, orderOf}
 use Rattle.layout.specs.File.{fileSize}
 use Rattle.layout.specs.Buffers.{Buffers, mostStarts, mostEntries}
 use Rattle.storage.specs.declared.Reading.{Reading}
@@ -26,26 +27,27 @@ use Rattle.checking.proofs.Readings.{read-room}
 use Rattle.storage.proofs.Passes.{file-few}
 
 pub write-then-read : WriteThenRead
-write-then-read c out r out′ w k a old q new d room =
+write-then-read form c out r out′ w k a old q new d room =
     let s = w .stored k a in
     let o : orderOf (take k out′) ≡ c .order = ap (λ (x : Rows). x .order) (s .chain) in
     let t : HasRoom (orderOf (take k out′)) (length (c .columns)) (length (old .starts)) (length (old .columns)) (length (old .rates)) = rw o room in
-    let v : accepts (orderOf (take k out′), length (c .columns)) ≡ readVerdict zerosRefused (take k out′) (length (old .starts)) (length (old .columns)) (length (old .rates)) =
+    let v : accepts (orderOf (take k out′), length (c .columns), formOf (take k out′)) ≡ readVerdict zerosRefused (take k out′) (length (old .starts)) (length (old .columns)) (length (old .rates)) =
     read-room zerosRefused (take k out′) _ _ _ (length (c .columns)) (s .accepted) (room-is _ _ _ _ _ t) in
-    let b : told q ≡ accepts (c .order, length (c .columns)) = d .answer ∙ sym v ∙ ap (λ (n : ℕ). accepts (n, length (c .columns))) o in
-    (b, sym (d .stored (c .order) (length (c .columns)) b .chain) ∙ s .chain)
+    let b : told q ≡ accepts (c .order, length (c .columns), form) =
+    d .answer ∙ sym v ∙ ap₂ (λ (n : ℕ) (f : Form). accepts (n, length (c .columns), f)) o (s .its-form) in
+    (b, sym (d .stored (c .order) (length (c .columns)) form b .chain) ∙ s .chain)
 
 pub read-then-write : ReadThenWrite
 unfolding writeVerdict
-read-then-write bytes old r new d n e a out w out′ x room =
-    let s = d .stored n e a in
-    let fits : leb (fileSize n e) (length out) ≡ true = le-leb (fileSize n e) (length out) (rw (s .size) at room) in
+read-then-write bytes old r new d n e form a out w out′ x room =
+    let s = d .stored n e form a in
+    let fits : leb (fileSize form n (take e (new .rates))) (length out) ≡ true = le-leb (fileSize form n (take e (new .rates))) (length out) (rw (s .size) at room) in
     let b : verdict w ≡ accepts (length bytes) = x .answer ∙ rw (s .passes, fits, s .size) in
     (b, sym (x .stored (length bytes) b .file) ∙ s .file)
 
 -- `mostStarts` and `mostEntries` do for every file: no reading into slices of these lengths is refused by 5
 pub read-always : (zeros : Bool) (bytes : List ℕ) (v : Verdict ℕ) → fileChecked zeros bytes ≡ v
-    → andThen v (λ e. accepts (orderOf bytes, e)) ≡ readVerdict zeros bytes mostStarts mostEntries mostEntries
+    → andThen v (λ e. accepts (orderOf bytes, e, formOf bytes)) ≡ readVerdict zeros bytes mostStarts mostEntries mostEntries
 unfolding readVerdict
 read-always zeros bytes (accepts e) h =
     let few = file-few zeros bytes e h in
@@ -64,7 +66,7 @@ module _ {zeros : Bool} {bytes : List ℕ} {old new : Buffers} {r : Reading} (d 
 
       go : (v : Verdict ℕ) → fileChecked zeros bytes ≡ v → v ≡ refusal f
       go (refuses s l) p =
-          let e : _≡_ {A = Verdict (ℕ × ℕ)} (refuses s l) (refuses (side f) (line f)) =
+          let e : _≡_ {A = Verdict (ℕ × ℕ × Form)} (refuses s l) (refuses (side f) (line f)) =
           read-always zeros bytes (refuses s l) p ∙ sym (rw (a, b, c) at (d .answer)) ∙ told-is in
           cc
       go (accepts k) p =
@@ -73,5 +75,6 @@ module _ {zeros : Bool} {bytes : List ℕ} {old new : Buffers} {r : Reading} (d 
           absurd (omega arith)
 
 -- and what is read has no more entries than a chain of 64 states can have
-pub read-few : {zeros : Bool} {bytes : List ℕ} {old new : Buffers} {r : Reading} {n e : ℕ} → Read zeros bytes old r new → r ≡ reading.Chain n e → e ≤ mostEntries
-read-few {zeros} {bytes} {n = n} {e = e} d q = file-few zeros bytes e (d .stored n e (ap told q) .accepted)
+pub read-few : {zeros : Bool} {bytes : List ℕ} {old new : Buffers} {r : Reading} {n e : ℕ} {form : Form} → Read zeros bytes old r new
+    → r ≡ reading.Chain n e form → e ≤ mostEntries
+read-few {zeros} {bytes} {n = n} {e = e} {form = form} d q = file-few zeros bytes e (d .stored n e form (ap told q) .accepted)

@@ -1,15 +1,16 @@
 -- A verdict on stored bytes, or on a chain to be written, whose facts hold is the verdict: `says` of the contracts of `read` and `write` leaves one
 -- answer. Assumes nothing.
-use mathlib.Core.Bool.{Bool, true≢false}
+use mathlib.Core.Bool.{Bool, true, false, true≢false}
 use mathlib.Core.List.{List, [], _∷_}
 use mathlib.Core.Path.{_≡_, refl, sym, ap, _∙_}
 use Prim.Native.Nat.{ℕ, zero, suc, _+_, _-_, _*_, _<_, _≤_}
 use native.Mathlib.Decide.{decLt, decLe}
-use native.Mathlib.Nat.{add-zero}
 use native.Mathlib.Numerals.{add-one}
 use native.Mathlib.Omega.{arith}
-use borrow.Author.Tests.{le-leb, lt-leb}
-use lib.ListN.{length, getD}
+use borrow.Author.Tests.{le-leb, lt-leb, ltb-false}
+use lib.Dec.{ltb}
+use lib.ListN.{length, getD, take}
+use Rattle.basics.specs.First.{first}
 use Rattle.basics.proofs.BoolLaws.{not-so}
 use Rattle.basics.proofs.FirstLaws.{IsFirst, first-is}
 use Rattle.refusal.specs.Table.{Verdict, Side, accepts, refuses}
@@ -17,79 +18,136 @@ use Rattle.refusal.specs.declared.Line.{Line}
 use Rattle.chain.specs.Rows.{Rows}
 use Rattle.chain.proofs.Reading.{says-checked, sound-accepted}
 use Rattle.chain.proofs.SoundLaws.{order-true, order-of}
-use Rattle.layout.specs.Bytes.{mapBytes, storedColumns, storedCount, storedRate, orderOf}
-use Rattle.checking.specs.Sound.{zerosRefused, mapAt, mapEnd, SoundMap, SoundRate, SoundRow, SoundTo, FirstBadBit}
-use Rattle.checking.specs.Sound.{FileSays, order-absent, order-broken, map-cut, bit-broken, rates-cut, rate-zero, left-over, all-sound}
-use Rattle.checking.specs.Verdict.{bytesRefused, badBit, firstBadBit, ratesChecked, rowChecked, fileChecked, roomToRead, readVerdict}
+use Rattle.layout.specs.declared.Form.{Form}
+use Rattle.layout.specs.declared.Form.the-variants.{One, Two}
+use Rattle.layout.specs.Forms.{short, width}
+use Rattle.layout.specs.Bytes.{mapBytes, mapsOf, bitAt, marked, storedCount, rateAt, ratesAt, widths, formOf, orderOf}
+use Rattle.checking.specs.Sound.{mapAt, ratesBegin, rowColumns, rowMarked, rowRates, SoundMap, SoundMarks, SoundRow, SoundTo, FirstBadBit, RateMet}
+use Rattle.checking.specs.Sound.{FileSays, order-absent, order-broken, map-cut, bit-broken, marks-cut, mark-loose, rates-cut, rate-zero, mark-wrong, left-over, all-sound}
+use Rattle.checking.specs.Verdict.{bytesRefused, badBit, firstBadBit, looseBit, firstLooseBit, marksChecked, rateChecked, ratesChecked, rowChecked, fileChecked, roomToRead, readVerdict}
 use Rattle.checking.specs.Verdict.{ReadSays, bytes-broken, room-short, all-read}
-use Rattle.checking.proofs.Checks.{good-bit, not-bad, rate-cut, rate-whole, rate-none, rates-sound, row-no-map, row-bad-bit, row-rates, RowsLeft, rows-extra, rows-end, rows-stop, rows-more}
+use Rattle.checking.proofs.Checks as checks
+use Rattle.checking.proofs.Checks.{good-bit, not-bad, tied-bit, not-loose, rate-cut, rate-whole, rate-marked, rate-none, SoundHere, allRates, marks-loose, marks-whole}
+use Rattle.checking.proofs.Checks.{row-no-map, row-bad-bit, row-marks, row-rates, row-whole, RowsLeft, rows-extra, rows-end, rows-stop, rows-more}
 use Rattle.checking.proofs.Answers.{has-room, room-is, file-empty, file-order, file-rows}
 use Rattle.checking.proofs.Readings.{read-no-room, read-room}
 use Rattle.storage.specs.Writing.{writeVerdict, WriteSays}
 use Rattle.storage.specs.Writing as writing
 use Rattle.storage.proofs.Passes.{file-entries}
+use Rattle.storage.proofs.WriteRead.{none-found}
+
+-- a search ends at the first number at which its test holds
+first-at : (test : ℕ → Bool) (e i : ℕ) → i < e → (test i ≡ false → ⊥) → ((j : ℕ) → j < i → test j ≡ false) → i ≡ first test 0 e
+first-at test e i l holds before = go (decLt i (first test 0 e)) (decLt (first test 0 e) i)
+  where
+    ends : IsFirst test 0 e (first test 0 e)
+    ends = first-is test 0 e (omega arith)
+
+    go : Dec (i < first test 0 e) → Dec (first test 0 e < i) → i ≡ first test 0 e
+    go (yes q) e = absurd (holds (ends .before i (omega arith) q))
+    go (no d) (yes q) = absurd (true≢false (sym (ends .found (omega arith)) ∙ before _ q))
+    go (no d) (no e) = omega arith
 
 module _ (zeros : Bool) (bytes : List ℕ) where
   -- ---- the rates of a row
 
-  -- all that are there are sound, and one is cut short
-  rates-short : (row : ℕ) (columns : List ℕ) (place : ℕ) → place ≤ length bytes → length bytes < place + 4 * length columns
-      → ((k : ℕ) → place + 4 * k + 4 ≤ length bytes → SoundRate zeros bytes (place + 4 * k)) → bytesRefused 8 0 0 ≡ ratesChecked zeros bytes row columns place
-  rates-short row [] place l h g = absurd (omega arith)
-  rates-short row (column ∷ columns) place l h g = go (λ q. rates-short row columns (place + 4) q (omega arith)) (decLe (place + 4) (length bytes))
-    where
-      go : (place + 4 ≤ length bytes → ((k : ℕ) → place + 4 + 4 * k + 4 ≤ length bytes → SoundRate zeros bytes (place + 4 + 4 * k))
-          → bytesRefused 8 0 0 ≡ ratesChecked zeros bytes row columns (place + 4))
-          → Dec (place + 4 ≤ length bytes) → bytesRefused 8 0 0 ≡ ratesChecked zeros bytes row (column ∷ columns) place
-      go later (yes q) =
-          let first : SoundRate zeros bytes place = rw (add-zero place) at (g 0 (omega arith)) in
-          rw (← rate-whole zeros bytes row column place q first) (later q (λ k m. let e : place + 4 * suc k ≡ place + 4 + 4 * k = omega arith in rw e at (g (suc k) (omega arith))))
-      go later (no q) = rw (← rate-cut zeros bytes row column place (omega arith))
+  module _ (form : Form) (marks : ℕ → Bool) (row : ℕ) where
+    -- all that are there are sound, and one is cut short
+    rates-short : (columns : List ℕ) (place : ℕ) → length bytes < place + widths marks columns
+        → ((k : ℕ) → k < length columns → place + widths marks (take (suc k) columns) ≤ length bytes → SoundHere zeros form marks bytes columns place k)
+        → place ≤ length bytes → bytesRefused 8 0 0 ≡ ratesChecked zeros form bytes row marks columns place
+    rates-short [] place h g l = absurd (omega arith)
+    rates-short (column ∷ columns) place h g l =
+        go (rates-short columns (place + width (marks column)) (omega arith) (λ k m q. g (suc k) (omega arith) (omega arith)))
+        (decLe (place + width (marks column)) (length bytes))
+      where
+        go : (place + width (marks column) ≤ length bytes → bytesRefused 8 0 0 ≡ ratesChecked zeros form bytes row marks columns (place + width (marks column)))
+            → Dec (place + width (marks column) ≤ length bytes) → bytesRefused 8 0 0 ≡ ratesChecked zeros form bytes row marks (column ∷ columns) place
+        go later (yes q) = rw (← rate-whole zeros form bytes row column (marks column) place q (g 0 (omega arith) (omega arith))) (later q)
+        go later (no q) = rw (← rate-cut zeros form bytes row column (marks column) place (omega arith))
 
-  -- those before one of rate 0 are sound
-  rates-zero : (row : ℕ) (columns : List ℕ) (place k : ℕ) → k < length columns → place + 4 * k + 4 ≤ length bytes → zeros ≡ zerosRefused → storedRate bytes (place + 4 * k) ≡ 0
-      → ((i : ℕ) → i < k → SoundRate zeros bytes (place + 4 * i)) → bytesRefused 14 row (getD columns k 0) ≡ ratesChecked zeros bytes row columns place
-  rates-zero row [] place k l h z q g = absurd (omega arith)
-  rates-zero row (column ∷ columns) place zero l h z q g =
-      let first : storedRate bytes place ≡ 0 = rw (add-zero place) at q in
-      rw (← rate-none zeros bytes row column place (omega arith) z (omega (arith, first)) row column refl refl)
-  rates-zero row (column ∷ columns) place (suc k) l h z q g =
-      let first : SoundRate zeros bytes place = rw (add-zero place) at (g 0 (omega arith)) in
-      let e : (i : ℕ) → place + 4 * suc i ≡ place + 4 + 4 * i = λ i. omega arith in
-      rw (← rate-whole zeros bytes row column place (omega arith) first)
-      (rates-zero row columns (place + 4) k (omega arith) (omega arith) z (rw (e k) at q) (λ i m. rw (e i) at (g (suc i) (omega arith))))
+    -- the k-th is there and refused, and those before it are sound
+    rates-refused : (side : Side) (line : Line) (columns : List ℕ) (place k : ℕ) → k < length columns
+        → place + widths marks (take (suc k) columns) ≤ length bytes → ((i : ℕ) → i < k → SoundHere zeros form marks bytes columns place i)
+        → ((p : ℕ) → p + width (marks (getD columns k 0)) ≤ length bytes
+        → rateAt (marks (getD columns k 0)) bytes p ≡ getD (ratesAt marks bytes columns place) k 0
+        → refuses side line ≡ rateChecked zeros form bytes row (getD columns k 0) (marks (getD columns k 0)) p)
+        → refuses side line ≡ ratesChecked zeros form bytes row marks columns place
+    rates-refused side line [] place k l h g f = absurd (omega arith)
+    rates-refused side line (column ∷ columns) place zero l h g f = rw (← f place (omega arith) refl)
+    rates-refused side line (column ∷ columns) place (suc k) l h g f =
+        rw (← rate-whole zeros form bytes row column (marks column) place (omega arith) (g 0 (omega arith)))
+        (rates-refused side line columns (place + width (marks column)) k (omega arith) (omega arith) (λ i m. g (suc i) (omega arith)) f)
 
-  -- ---- a row
+  -- ---- the bits of a row's maps
 
   abbrev n : ℕ
   n = orderOf bytes
 
-  found : (row : ℕ) → IsFirst (badBit bytes n row (mapAt bytes row)) 0 (8 * mapBytes n) (firstBadBit bytes n row (mapAt bytes row))
-  found row = first-is (badBit bytes n row (mapAt bytes row)) 0 (8 * mapBytes n) (omega arith)
-
   -- in a sound map there is no bad bit, and the first bad bit is the first
-  clean : (row : ℕ) → SoundMap bytes row → 8 * mapBytes n ≤ firstBadBit bytes n row (mapAt bytes row)
-  clean row g = go (decLe (8 * mapBytes n) (firstBadBit bytes n row (mapAt bytes row)))
-    where
-      go : Dec (8 * mapBytes n ≤ firstBadBit bytes n row (mapAt bytes row)) → 8 * mapBytes n ≤ firstBadBit bytes n row (mapAt bytes row)
-      go (yes l) = l
-      go (no d) =
-          let l : firstBadBit bytes n row (mapAt bytes row) < 8 * mapBytes n = omega arith in
-          absurd (true≢false (sym (found row .found l) ∙ not-bad bytes n row (mapAt bytes row) _ (g .bits _ l)))
+  clean : (row : ℕ) → SoundMap bytes row → ltb (firstBadBit bytes n row (mapAt bytes row)) (8 * mapBytes n) ≡ false
+  clean row g = none-found (badBit bytes n row (mapAt bytes row)) (8 * mapBytes n) (λ j l. not-bad bytes n row (mapAt bytes row) j (g .bits j l))
 
   first-bad : (row bit : ℕ) → FirstBadBit bytes row bit → bit ≡ firstBadBit bytes n row (mapAt bytes row)
-  first-bad row bit f = go (decLt bit (firstBadBit bytes n row (mapAt bytes row))) (decLt (firstBadBit bytes n row (mapAt bytes row)) bit)
-    where
-      go : Dec (bit < firstBadBit bytes n row (mapAt bytes row)) → Dec (firstBadBit bytes n row (mapAt bytes row) < bit) → bit ≡ firstBadBit bytes n row (mapAt bytes row)
-      go (yes l) e = absurd (f .broken (good-bit bytes n row (mapAt bytes row) bit (found row .before bit (omega arith) l)))
-      go (no d) (yes l) =
-          absurd (true≢false (sym (found row .found (omega (arith, f .inside))) ∙ not-bad bytes n row (mapAt bytes row) _ (f .before _ l)))
-      go (no d) (no e) = omega arith
+  first-bad row bit f =
+      first-at (badBit bytes n row (mapAt bytes row)) (8 * mapBytes n) bit (f .inside) (λ h. f .broken (good-bit bytes n row (mapAt bytes row) bit h))
+      (λ j l. not-bad bytes n row (mapAt bytes row) j (f .before j l))
 
-  row-sound : (row : ℕ) → SoundRow zeros bytes row → rowChecked zeros bytes n row (mapAt bytes row) ≡ accepts (mapAt bytes (suc row))
+  -- the same of the second map, in form 2
+  all-tied : (map : ℕ) → ((j : ℕ) → j < 8 * mapBytes n → marked Two bytes n map j ≡ true → bitAt bytes map j ≡ true)
+      → ltb (firstLooseBit bytes n map) (8 * mapBytes n) ≡ false
+  all-tied map g = none-found (looseBit bytes n map) (8 * mapBytes n) (λ j l. not-loose bytes n map j (g j l))
+
+  first-loose : (map bit : ℕ) → bit < 8 * mapBytes n → ((marked Two bytes n map bit ≡ true → bitAt bytes map bit ≡ true) → ⊥)
+      → ((j : ℕ) → j < bit → marked Two bytes n map j ≡ true → bitAt bytes map j ≡ true) → bit ≡ firstLooseBit bytes n map
+  first-loose map bit inside broken before =
+      first-at (looseBit bytes n map) (8 * mapBytes n) bit inside (λ h. broken (tied-bit bytes n map bit h)) (λ j l. not-loose bytes n map j (before j l))
+
+  -- ---- the second map of a row
+
+  tied : (row : ℕ) → SoundMarks bytes row → formOf bytes ≡ Two → ltb (firstLooseBit bytes n (mapAt bytes row)) (8 * mapBytes n) ≡ false
+  tied row g e = all-tied (mapAt bytes row) (λ j l. rw e at (g .bits j l))
+
+  marks-sound : (row : ℕ) → SoundMarks bytes row → marksChecked (formOf bytes) bytes n row (mapAt bytes row) ≡ accepts (ratesBegin bytes row)
+  marks-sound row g = marks-whole bytes n row (mapAt bytes row) (formOf bytes) (g .there) (tied row g)
+
+  -- form 1 has no second map that could be cut short or have a bit
+  cut-marks : (form : Form) (row map : ℕ) → map + mapBytes n ≤ length bytes → length bytes < map + mapsOf form n
+      → marksChecked form bytes n row map ≡ bytesRefused 8 0 0
+  cut-marks One row map h l = absurd (omega arith)
+  cut-marks Two row map h l = sym (checks.marks-cut Two bytes n row map refl l)
+
+  loose-marks : (form : Form) (row map bit : ℕ) → map + mapsOf form n ≤ length bytes → bit < 8 * mapBytes n
+      → ((marked form bytes n map bit ≡ true → bitAt bytes map bit ≡ true) → ⊥)
+      → ((j : ℕ) → j < bit → marked form bytes n map j ≡ true → bitAt bytes map j ≡ true) → marksChecked form bytes n row map ≡ bytesRefused 16 row bit
+  loose-marks One row map bit h l broken before = absurd (broken (λ t. absurd (true≢false (sym t))))
+  loose-marks Two row map bit h l broken before = sym (marks-loose Two bytes n row map refl h bit (first-loose map bit l broken before) l row refl)
+
+  -- ---- a row
+
+  row-sound : (row : ℕ) → SoundRow zeros bytes row → rowChecked zeros (formOf bytes) bytes n row (mapAt bytes row) ≡ accepts (mapAt bytes (suc row))
   row-sound row g =
-      sym (row-rates zeros bytes n row (mapAt bytes row) (g .map .there) _ refl (clean row (g .map)) _
-      (sym (rates-sound zeros bytes row (storedColumns bytes n (mapAt bytes row)) (mapEnd bytes row) (g .rates) (g .each))))
+      row-whole zeros (formOf bytes) bytes n row (mapAt bytes row) (g .rates) (clean row (g .map)) (tied row (g .marks)) (g .each)
+
+  -- the rates of a row whose maps are sound decide
+  by-rates : (row : ℕ) → SoundMap bytes row → SoundMarks bytes row → (v : Verdict ℕ) → v ≡ allRates zeros (formOf bytes) bytes n row (mapAt bytes row)
+      → v ≡ rowChecked zeros (formOf bytes) bytes n row (mapAt bytes row)
+  by-rates row g m = row-rates zeros (formOf bytes) bytes n row (mapAt bytes row) (g .there) _ refl (ltb-false _ _ (clean row g)) _ (marks-sound row m)
+
+  -- so does the second map of one whose first is sound
+  by-marks : (row : ℕ) → SoundMap bytes row → (side : Side) (line : Line) → marksChecked (formOf bytes) bytes n row (mapAt bytes row) ≡ refuses side line
+      → refuses side line ≡ rowChecked zeros (formOf bytes) bytes n row (mapAt bytes row)
+  by-marks row g = row-marks zeros (formOf bytes) bytes n row (mapAt bytes row) (g .there) _ refl (ltb-false _ _ (clean row g))
+
+  -- a rate that is met and refused
+  by-rate : (row k : ℕ) → SoundMap bytes row → SoundMarks bytes row → RateMet zeros bytes row k → (side : Side) (line : Line)
+      → ((p : ℕ) → p + width (rowMarked bytes row (getD (rowColumns bytes row) k 0)) ≤ length bytes
+      → rateAt (rowMarked bytes row (getD (rowColumns bytes row) k 0)) bytes p ≡ getD (rowRates bytes row) k 0
+      → refuses side line ≡ rateChecked zeros (formOf bytes) bytes row (getD (rowColumns bytes row) k 0) (rowMarked bytes row (getD (rowColumns bytes row) k 0)) p)
+      → refuses side line ≡ rowChecked zeros (formOf bytes) bytes n row (mapAt bytes row)
+  by-rate row k g m r side line f =
+      by-rates row g m _
+      (rates-refused (formOf bytes) (rowMarked bytes row) row side line (rowColumns bytes row) (ratesBegin bytes row) k (r .inside) (r .there) (r .before) f)
 
   -- ---- the rows before a row are passed
 
@@ -97,42 +155,52 @@ module _ (zeros : Bool) (bytes : List ℕ) where
   before zero = 0
   before (suc row) = before row + storedCount bytes n (mapAt bytes row)
 
-  to-row : (row : ℕ) → row ≤ n → SoundTo zeros bytes row → RowsLeft zeros bytes n row (mapAt bytes row) (before row)
+  to-row : (row : ℕ) → row ≤ n → SoundTo zeros bytes row → RowsLeft zeros (formOf bytes) bytes n row (mapAt bytes row) (before row)
   unfolding before
-  to-row zero l s = record { turn = l; inside = s .some; few = omega arith; same = let z : n - 0 ≡ n = omega arith in rw z }
+  to-row zero l s = record { turn = l; inside = s .some; few = omega arith; left = let z : n - 0 ≡ n = omega arith in rw z }
   to-row (suc row) l s =
       let at-row = to-row row (omega arith) (record { some = s .some; order = s .order; rows = λ i m. s .rows i (omega arith) }) in
-      rw (add-one row) at (rows-more zeros bytes n row (mapAt bytes row) (before row) at-row (omega arith) _ (row-sound row (s .rows row (omega arith))) _ refl)
+      rw (add-one row)
+      at (rows-more zeros (formOf bytes) bytes n row (mapAt bytes row) (before row) at-row (omega arith) _ (row-sound row (s .rows row (omega arith))) _ refl)
 
   -- a row after them that is refused decides
-  stop : {row : ℕ} → row < n → SoundTo zeros bytes row → (side : Side) (line : Line) → refuses side line ≡ rowChecked zeros bytes n row (mapAt bytes row)
+  stop : {row : ℕ} → row < n → SoundTo zeros bytes row → (side : Side) (line : Line) → refuses side line ≡ rowChecked zeros (formOf bytes) bytes n row (mapAt bytes row)
       → refuses side line ≡ fileChecked zeros bytes
   stop {row} l s side line h =
       file-rows zeros bytes (s .some) (order-of n (s .order)) _
-      (rows-stop zeros bytes n row (mapAt bytes row) (before row) (to-row row (omega arith) s) l side line (sym h))
+      (rows-stop zeros (formOf bytes) bytes n row (mapAt bytes row) (before row) (to-row row (omega arith) s) l side line (sym h))
 
   -- ---- the bytes, and the room
 
   pub says-file : {v : Verdict ℕ} → FileSays zeros bytes v → v ≡ fileChecked zeros bytes
   says-file (order-absent h) = file-empty zeros bytes h
   says-file (order-broken p h) = file-order zeros bytes p (not-so _ (λ t. h (order-true n t)))
-  says-file (map-cut {row} l s h) = stop l s _ _ (row-no-map zeros bytes n row (mapAt bytes row) h)
-  says-file (bit-broken {row} {bit} l s f) = stop l s _ _ (row-bad-bit zeros bytes n row (mapAt bytes row) (f .there) bit (first-bad row bit f) (f .inside))
-  says-file (rates-cut {row} l s g h a) =
+  says-file (map-cut {row} l s h) = stop l s _ _ (row-no-map zeros (formOf bytes) bytes n row (mapAt bytes row) h)
+  says-file (bit-broken {row} {bit} l s f) =
+      stop l s _ _ (row-bad-bit zeros (formOf bytes) bytes n row (mapAt bytes row) (f .there) bit (first-bad row bit f) (f .inside))
+  says-file (marks-cut {row} l s g h) = stop l s _ _ (by-marks row g _ _ (cut-marks (formOf bytes) row (mapAt bytes row) (g .there) h))
+  says-file (mark-loose {row} {bit} l s g f) =
+      stop l s _ _ (by-marks row g _ _ (loose-marks (formOf bytes) row (mapAt bytes row) bit (f .there) (f .inside) (f .broken) (f .before)))
+  says-file (rates-cut {row} l s g m h a) =
+      stop l s _ _ (by-rates row g m _ (rates-short (formOf bytes) (rowMarked bytes row) row (rowColumns bytes row) (ratesBegin bytes row) h a (m .there)))
+  says-file (rate-zero {row} {k} l s g m r z q) =
       stop l s _ _
-      (row-rates zeros bytes n row (mapAt bytes row) (g .there) _ refl (clean row g) _ (rates-short row (storedColumns bytes n (mapAt bytes row)) (mapEnd bytes row) (g .there) h a))
-  says-file (rate-zero {row} {k} l s g f) =
+      (by-rate row k g m r _ _ (λ p h e. rate-none zeros (formOf bytes) bytes row _ _ p h z (omega (arith, e, q)) row _ refl refl))
+  says-file (mark-wrong {row} {k} l s g m r z w) =
       stop l s _ _
-      (row-rates zeros bytes n row (mapAt bytes row) (g .there) _ refl (clean row g) _
-      (rates-zero row (storedColumns bytes n (mapAt bytes row)) (mapEnd bytes row) k (f .inside) (f .there) (f .refused) (f .is-zero) (f .before)))
+      (by-rate row k g m r _ _
+      (λ p h e. rate-marked zeros (formOf bytes) bytes row _ _ p h (λ t. omega (arith, e, z t)) _
+      (checks.mark-wrong (formOf bytes) row _ _ _ _ (λ t. w (t ∙ ap (short (formOf bytes)) e)) row _ refl refl)))
   says-file (left-over s h) =
-      file-rows zeros bytes (s .some) (order-of n (s .order)) _ (rows-extra zeros bytes n n (mapAt bytes n) (before n) (to-row n (omega arith) s) (omega arith) (λ q. omega arith))
+      file-rows zeros bytes (s .some) (order-of n (s .order)) _
+      (rows-extra zeros (formOf bytes) bytes n n (mapAt bytes n) (before n) (to-row n (omega arith) s) (omega arith) (λ q. omega arith))
   says-file (all-sound s h) =
       let whole : accepts (before n) ≡ fileChecked zeros bytes =
-      file-rows zeros bytes (s .some) (order-of n (s .order)) _ (rows-end zeros bytes n n (mapAt bytes n) (before n) (to-row n (omega arith) s) (omega arith) h) in
+      file-rows zeros bytes (s .some) (order-of n (s .order)) _
+      (rows-end zeros (formOf bytes) bytes n n (mapAt bytes n) (before n) (to-row n (omega arith) s) (omega arith) h) in
       ap accepts (sym (file-entries zeros bytes (before n) (sym whole))) ∙ whole
 
-  pub says-read : (starts columns rates : ℕ) {v : Verdict (ℕ × ℕ)} → ReadSays zeros bytes starts columns rates v → v ≡ readVerdict zeros bytes starts columns rates
+  pub says-read : (starts columns rates : ℕ) {v : Verdict (ℕ × ℕ × Form)} → ReadSays zeros bytes starts columns rates v → v ≡ readVerdict zeros bytes starts columns rates
   unfolding readVerdict
   says-read starts columns rates (bytes-broken f) = rw (← says-file f)
   says-read starts columns rates (room-short {e} f h) =
@@ -141,8 +209,8 @@ module _ (zeros : Bool) (bytes : List ℕ) where
 
 -- ---- a writing
 
-pub says-written : (c : Rows) (room : ℕ) {v : Verdict ℕ} → WriteSays c room v → v ≡ writeVerdict c room
+pub says-written : (form : Form) (c : Rows) (room : ℕ) {v : Verdict ℕ} → WriteSays form c room v → v ≡ writeVerdict form c room
 unfolding writeVerdict
-says-written c room (writing.rule-broken p) = rw (← says-checked c p)
-says-written c room (writing.room-short a l) = rw (sound-accepted c a, lt-leb _ _ l)
-says-written c room (writing.all-written a l) = rw (sound-accepted c a, le-leb _ _ l)
+says-written form c room (writing.rule-broken p) = rw (← says-checked c p)
+says-written form c room (writing.room-short a l) = rw (sound-accepted c a, lt-leb _ _ l)
+says-written form c room (writing.all-written a l) = rw (sound-accepted c a, le-leb _ _ l)

@@ -13,46 +13,66 @@ use borrow.Author.Tests.{eq-eqb, ltb-true, ltb-false}
 use Rattle.chain.specs.Rows.{Rows, rows, begins, ends, columnAt}
 use Rattle.chain.specs.Sound.{Sound, SoundEntry}
 use Rattle.chain.proofs.SoundLaws.{order-of, start-within}
+use Rattle.basics.specs.First.{first}
 use Rattle.basics.proofs.FirstLaws.{first-is}
 use Rattle.refusal.specs.Table.{accepts}
-use Rattle.layout.specs.Bytes.{mapBytes, bitAt, storedColumns, storedRates, rowEnd, storedCount, startsIn, columnsIn, ratesIn, chainOf}
+use Rattle.layout.specs.declared.Form.{Form}
+use Rattle.layout.specs.declared.Form.the-variants.{One, Two}
+use Rattle.layout.specs.Bytes.{mapBytes, mapsOf, bitAt, marked, storedColumns, storedRates, ratesAt, widths, rowEnd, storedCount, startsIn, columnsIn, ratesIn, formOf, orderOf, chainOf}
+use Rattle.layout.proofs.Rates.{MarkedBy, marked-size}
+use Rattle.layout.proofs.FirstByte.{form-in, order-in}
 use Rattle.checking.specs.Sound.{zerosTaken}
-use Rattle.checking.specs.Verdict.{badBit, firstBadBit, rowChecked, rowsChecked, fileChecked}
-use Rattle.layout.specs.File.{has, mapOf, bytesOf, rowBytes, rowsBytes, fileOf}
-use Rattle.checking.proofs.Checks.{not-bad, zeros-pass, rates-sound, row-rates, row-is}
+use Rattle.checking.specs.Verdict.{badBit, looseBit, firstLooseBit, rowChecked, rowsChecked, fileChecked}
+use Rattle.layout.specs.File.{has, mapOf, shortColumns, marksOf, bytesOf, ratesSize, rowBytes, rowsBytes, fileOf}
+use Rattle.checking.proofs.Checks.{not-bad, not-loose, SoundHere, marked-here, row-whole, row-is}
 use Rattle.checking.proofs.Answers.{file-rows}
-use Rattle.packing.proofs.MapLaws.{has-there, length-map-of, length-bytes-of}
+use Rattle.packing.proofs.MapLaws.{has-there, length-map-of, length-bytes-of, length-marks, length-row}
 use Rattle.packing.proofs.Storing.{drop-part, starts-next, starts-two, starts-last}
 use Rattle.storage.proofs.Holding.{Rising, none, more, rising-high, holding-has}
 use Rattle.storage.proofs.MapBits.{map-forth, rates-forth}
+use Rattle.storage.proofs.Marks.{short-has, marked-one, marked-two}
 
 -- ---- a row that was written at a place
 
-pub record RowRead (bytes : List ℕ) (n row map : ℕ) (columns rates t : List ℕ) : Type 0 where
+pub record RowRead (form : Form) (bytes : List ℕ) (n row map : ℕ) (columns rates t : List ℕ) : Type 0 where
   pub columns-are : storedColumns bytes n map ≡ columns
-  pub rates-are : storedRates bytes n map ≡ rates
-  pub sound : rowChecked zerosTaken bytes n row map ≡ accepts (rowEnd bytes n map)
-  pub rest : drop (rowEnd bytes n map) bytes ≡ t
+  pub rates-are : storedRates form bytes n map ≡ rates
+  pub sound : rowChecked zerosTaken form bytes n row map ≡ accepts (rowEnd form bytes n map)
+  pub rest : drop (rowEnd form bytes n map) bytes ≡ t
 
-module _ (bytes : List ℕ) (n row map : ℕ) (columns rates t : List ℕ) (e : drop map bytes ≡ rowBytes n columns rates ++ t) (order : 0 < n)
+-- a search that finds nothing ends at its end
+pub none-found : (test : ℕ → Bool) (e : ℕ) → ((j : ℕ) → j < e → test j ≡ false) → ltb (first test 0 e) e ≡ false
+none-found test e h = go (ltb (first test 0 e) e) refl
+  where
+    go : (b : Bool) → ltb (first test 0 e) e ≡ b → ltb (first test 0 e) e ≡ false
+    go true b = let l = ltb-true _ _ b in absurd (true≢false (sym (first-is test 0 e (omega arith) .found l) ∙ h (first test 0 e) l))
+    go false b = b
+
+module _ (form : Form) (bytes : List ℕ) (n row map : ℕ) (columns rates t : List ℕ) (e : drop map bytes ≡ rowBytes form n columns rates ++ t) (order : 0 < n)
     (inside : map ≤ length bytes) (rise : Rising n 0 columns) (own : has row columns ≡ false) (many : length rates ≡ length columns)
     (small : (i : ℕ) → getD rates i 0 < 4294967296) where
-  e′ : drop map bytes ≡ mapOf columns (mapBytes n) 0 ++ (bytesOf rates ++ t)
-  e′ = e ∙ append-assoc (mapOf columns (mapBytes n) 0) (bytesOf rates) t
+  e′ : drop map bytes ≡ mapOf columns (mapBytes n) 0 ++ (marksOf form n columns rates ++ (bytesOf form rates ++ t))
+  e′ = e ∙ append-assoc (mapOf columns (mapBytes n) 0) (marksOf form n columns rates ++ bytesOf form rates) t
+      ∙ ap (λ (l : List ℕ). mapOf columns (mapBytes n) 0 ++ l) (append-assoc (marksOf form n columns rates) (bytesOf form rates) t)
 
   bits-are : (j : ℕ) → j < 8 * mapBytes n → bitAt bytes map j ≡ has j columns
-  bits-are = map-forth bytes map (mapBytes n) columns (bytesOf rates ++ t) e′
+  bits-are = map-forth bytes map (mapBytes n) columns (marksOf form n columns rates ++ (bytesOf form rates ++ t)) e′
 
   read-columns : storedColumns bytes n map ≡ columns
   read-columns = holding-has n (bitAt bytes map) (n - 0) 0 columns (omega arith) rise (λ j a b. bits-are j (omega arith))
 
-  count-is : storedCount bytes n map ≡ length columns
-  count-is = ap length read-columns
-
-  after-map : drop (map + mapBytes n) bytes ≡ bytesOf rates ++ t
+  after-map : drop (map + mapBytes n) bytes ≡ marksOf form n columns rates ++ (bytesOf form rates ++ t)
   after-map =
       sym (drop-drop (mapBytes n) map bytes) ∙ ap (λ (l : List ℕ). drop (mapBytes n) l) e′
-      ∙ drop-at (mapOf columns (mapBytes n) 0) (bytesOf rates ++ t) (mapBytes n) (length-map-of columns (mapBytes n) 0)
+      ∙ drop-at (mapOf columns (mapBytes n) 0) (marksOf form n columns rates ++ (bytesOf form rates ++ t)) (mapBytes n) (length-map-of columns (mapBytes n) 0)
+
+  after-marks : drop (map + mapsOf form n) bytes ≡ bytesOf form rates ++ t
+  after-marks =
+      let w = length-marks form n columns rates in
+      let q : map + mapBytes n + length (marksOf form n columns rates) ≡ map + mapsOf form n = omega (arith, w) in
+      ap (λ (k : ℕ). drop k bytes) (sym q) ∙ sym (drop-drop (length (marksOf form n columns rates)) (map + mapBytes n) bytes)
+      ∙ ap (λ (l : List ℕ). drop (length (marksOf form n columns rates)) l) after-map
+      ∙ drop-at (marksOf form n columns rates) (bytesOf form rates ++ t) (length (marksOf form n columns rates)) refl
 
   -- a bit that stands is a column of the row, so none is bad
   all-good : (j : ℕ) → j < 8 * mapBytes n → badBit bytes n row map j ≡ false
@@ -63,36 +83,46 @@ module _ (bytes : List ℕ) (n row map : ℕ) (columns rates t : List ℕ) (e : 
       let below : (b : Bool) → ltb j n ≡ b → j < n = elim [ true ↦ ltb-true j n | false ↦ λ z. absurd (true≢false (sym q ∙ rising-high rise j (ltb-false j n z))) ] in
       (below (ltb j n) refl, λ z. true≢false (sym q ∙ ap (λ (x : ℕ). has x columns) z ∙ own)))
 
-  bytes-are : length bytes ≡ map + mapBytes n + 4 * length columns + length t
+  -- the second map marks the short rates, so none of its bits is loose
+  marked-is : form ≡ Two → (j : ℕ) → j < 8 * mapBytes n → bitAt bytes (map + mapBytes n) j ≡ has j (shortColumns columns rates)
+  marked-is q = map-forth bytes (map + mapBytes n) (mapBytes n) (shortColumns columns rates) (bytesOf form rates ++ t) (after-map ∙ rw q)
+
+  tied : form ≡ Two → ltb (firstLooseBit bytes n map) (8 * mapBytes n) ≡ false
+  tied q =
+      none-found (looseBit bytes n map) (8 * mapBytes n)
+      (λ j h. not-loose bytes n map j (λ t. bits-are j h ∙ short-has j columns rates (sym (marked-is q j h) ∙ t)))
+
+  as-marked : (f : Form) → form ≡ f → MarkedBy f (marked f bytes n map) columns rates
+  as-marked One q = marked-one columns rates many
+  as-marked Two q = marked-two n 0 (marked Two bytes n map) columns rates rise many (λ j a b. marked-is q j (omega arith))
+
+  wide : widths (marked form bytes n map) columns ≡ ratesSize form rates
+  wide = marked-size (as-marked form refl)
+
+  bytes-are : length bytes ≡ map + mapsOf form n + ratesSize form rates + length t
   bytes-are =
       let x : length (drop map bytes) ≡ length bytes - map = length-drop map bytes in
-      let y : length (drop map bytes) ≡ mapBytes n + (4 * length rates + length t) =
-      ap length e′ ∙ length-append (mapOf columns (mapBytes n) 0) (bytesOf rates ++ t)
-      ∙ rw (length-map-of columns (mapBytes n) 0, length-append (bytesOf rates) t, length-bytes-of rates) in
-      omega arith
+      let y : length (drop map bytes) ≡ length (rowBytes form n columns rates) + length t = ap length e ∙ length-append (rowBytes form n columns rates) t in
+      omega (arith, length-row form n columns rates)
 
-  none-bad : 8 * mapBytes n ≤ firstBadBit bytes n row map
-  none-bad = go (ltb (firstBadBit bytes n row map) (8 * mapBytes n)) refl
-    where
-      go : (b : Bool) → ltb (firstBadBit bytes n row map) (8 * mapBytes n) ≡ b → 8 * mapBytes n ≤ firstBadBit bytes n row map
-      go true b =
-          let l = ltb-true _ _ b in
-          absurd (true≢false (sym (first-is (badBit bytes n row map) 0 (8 * mapBytes n) (omega arith) .found l) ∙ all-good (firstBadBit bytes n row map) l))
-      go false b = ltb-false _ _ b
+  rates-read : ratesAt (marked form bytes n map) bytes columns (map + mapsOf form n) ≡ rates
+  rates-read = rates-forth bytes form (marked form bytes n map) columns rates (map + mapsOf form n) t (as-marked form refl) small after-marks
 
-  row-forth : RowRead bytes n row map columns rates t
+  each : (k : ℕ) → k < length columns → SoundHere zerosTaken form (marked form bytes n map) bytes columns (map + mapsOf form n) k
+  each k l = marked-here form (marked form bytes n map) bytes columns (map + mapsOf form n) (rw rates-read (as-marked form refl)) k l
+
+  row-forth : RowRead form bytes n row map columns rates t
   row-forth =
       record {
         columns-are = read-columns;
-        rates-are = rw (count-is ∙ sym many) (rates-forth bytes rates (map + mapBytes n) t small after-map);
+        rates-are = rw read-columns rates-read;
         sound =
-            sym
-            (row-rates zerosTaken bytes n row map (omega (arith, bytes-are)) (firstBadBit bytes n row map) refl none-bad (accepts (rowEnd bytes n map))
-            (sym (rates-sound zerosTaken bytes row (storedColumns bytes n map) (map + mapBytes n) (omega (arith, bytes-are, count-is)) (λ k l. zeros-pass bytes _))));
+            row-whole zerosTaken form bytes n row map (rw read-columns (omega (arith, bytes-are, wide))) (none-found (badBit bytes n row map) (8 * mapBytes n) all-good) tied
+            (rw read-columns each);
         rest =
-            rw count-is
-            (sym (drop-drop (4 * length columns) (map + mapBytes n) bytes) ∙ ap (λ (l : List ℕ). drop (4 * length columns) l) after-map
-            ∙ drop-at (bytesOf rates) t (4 * length columns) (length-bytes-of rates ∙ ap (λ (k : ℕ). 4 * k) many));
+            rw (read-columns, wide)
+            (sym (drop-drop (ratesSize form rates) (map + mapsOf form n) bytes) ∙ ap (λ (l : List ℕ). drop (ratesSize form rates) l) after-marks
+            ∙ drop-at (bytesOf form rates) t (ratesSize form rates) (length-bytes-of form rates));
       }
 
 -- ---- all rows, by their starts
@@ -118,16 +148,16 @@ take-small K z d l h i = go (ltb i d) refl
     go true t = rw (getD-take d l i 0 (ltb-true i d t)) (h i)
     go false t = rw (List·getD-eq-default (take d l) 0 {n = i} (omega (arith, length-take d l, ltb-false i d t))) z
 
-record RowsRead (bytes : List ℕ) (n k row map a : ℕ) (starts columns rates : List ℕ) : Type 0 where
-  starts-are : startsIn bytes n k map a ≡ starts
-  columns-are : columnsIn bytes n k map ≡ columns
-  rates-are : ratesIn bytes n k map ≡ rates
-  sound : rowsChecked zerosTaken bytes n k row map a ≡ accepts (a + length columns)
+record RowsRead (form : Form) (bytes : List ℕ) (n k row map a : ℕ) (starts columns rates : List ℕ) : Type 0 where
+  starts-are : startsIn form bytes n k map a ≡ starts
+  columns-are : columnsIn form bytes n k map ≡ columns
+  rates-are : ratesIn form bytes n k map ≡ rates
+  sound : rowsChecked zerosTaken form bytes n k row map a ≡ accepts (a + length columns)
 
-module _ (bytes : List ℕ) (n : ℕ) (order : 0 < n) where
+module _ (form : Form) (bytes : List ℕ) (n : ℕ) (order : 0 < n) where
   rows-forth : (row a : ℕ) (starts columns rates : List ℕ) (map : ℕ) → RowsKept n row (a ∷ starts) columns rates
-      → ((i : ℕ) → getD rates i 0 < 4294967296) → map ≤ length bytes → drop map bytes ≡ rowsBytes n (a ∷ starts) columns rates
-      → RowsRead bytes n (length starts) row map a (a ∷ starts) columns rates
+      → ((i : ℕ) → getD rates i 0 < 4294967296) → map ≤ length bytes → drop map bytes ≡ rowsBytes form n (a ∷ starts) columns rates
+      → RowsRead form bytes n (length starts) row map a (a ∷ starts) columns rates
   rows-forth row a [] columns rates map (c0, r0) small inside e =
       let z : length bytes - map ≡ 0 = sym (length-drop map bytes) ∙ ap length e in
       record {
@@ -139,11 +169,11 @@ module _ (bytes : List ℕ) (n : ℕ) (order : 0 < n) where
   rows-forth row a (b ∷ starts) columns rates map (r, f) small inside e =
       let lc : length (take (b - a) columns) ≡ b - a = length-take-le (b - a) columns (r .columns-in) in
       let lr : length (take (b - a) rates) ≡ b - a = length-take-le (b - a) rates (r .rates-in) in
-      let g = row-forth bytes n row map (take (b - a) columns) (take (b - a) rates) (rowsBytes n (b ∷ starts) (drop (b - a) columns) (drop (b - a) rates)) e
+      let g = row-forth form bytes n row map (take (b - a) columns) (take (b - a) rates) (rowsBytes form n (b ∷ starts) (drop (b - a) columns) (drop (b - a) rates)) e
       order inside (r .rises) (r .own) (lr ∙ sym lc) (take-small 4294967296 (omega arith) (b - a) rates small) in
       let q : a + storedCount bytes n map ≡ b = omega (arith, ap length (g .columns-are) ∙ lc, r .order) in
-      let h = rows-forth (row + 1) b starts (drop (b - a) columns) (drop (b - a) rates) (rowEnd bytes n map) f
-      (λ i. rw (getD-drop (b - a) rates i 0) (small (b - a + i))) (row-is zerosTaken bytes n row map (rowEnd bytes n map) (g .sound) .whole) (g .rest) in
+      let h = rows-forth (row + 1) b starts (drop (b - a) columns) (drop (b - a) rates) (rowEnd form bytes n map) f
+      (λ i. rw (getD-drop (b - a) rates i 0) (small (b - a + i))) (row-is zerosTaken form bytes n row map (rowEnd form bytes n map) (g .sound) .whole) (g .rest) in
       record {
         starts-are = ap (λ (l : List ℕ). a ∷ l) (rw q (h .starts-are));
         columns-are = ap₂ (λ (x y : List ℕ). x ++ y) (g .columns-are) (h .columns-are) ∙ take-append-drop (b - a) columns;
@@ -203,32 +233,36 @@ module _ {c : Rows} (g : Sound c) where
       let ih = rw (starts-next (c .order) (c .starts) count row l) at (kept-from k (row + 1) (omega arith)) in
       rw (starts-two (c .order) (c .starts) count row l) (row-kept row l, rw (drop-part c row o (c .columns), drop-part c row o (c .rates)) ih)
 
-from-zero : (n : ℕ) (t columns rates : List ℕ) → 0 < n → length t ≡ n → RowsKept n 0 (0 ∷ t) columns rates → ((i : ℕ) → getD rates i 0 < 4294967296)
-    → RowsRead (fileOf (rows n (0 ∷ t) columns rates)) n n 0 1 0 (0 ∷ t) columns rates
-from-zero n t columns rates o e f small =
-    subst (λ (k : ℕ). RowsRead (fileOf (rows n (0 ∷ t) columns rates)) n k 0 1 0 (0 ∷ t) columns rates) e
-    (rows-forth (fileOf (rows n (0 ∷ t) columns rates)) n o 0 0 t columns rates 1 f small (omega arith) refl)
+from-zero : (form : Form) (n : ℕ) (t columns rates : List ℕ) → 0 < n → length t ≡ n → RowsKept n 0 (0 ∷ t) columns rates → ((i : ℕ) → getD rates i 0 < 4294967296)
+    → RowsRead form (fileOf form (rows n (0 ∷ t) columns rates)) n n 0 1 0 (0 ∷ t) columns rates
+from-zero form n t columns rates o e f small =
+    subst (λ (k : ℕ). RowsRead form (fileOf form (rows n (0 ∷ t) columns rates)) n k 0 1 0 (0 ∷ t) columns rates) e
+    (rows-forth form (fileOf form (rows n (0 ∷ t) columns rates)) n o 0 0 t columns rates 1 f small (omega arith) refl)
 
--- the file of a chain holds that chain, and is accepted
-pub record Holds (bytes : List ℕ) (c : Rows) : Type 0 where
+-- the file of a chain in a form holds that chain, has that form, and is accepted
+pub record Holds (form : Form) (bytes : List ℕ) (c : Rows) : Type 0 where
   pub chain-is : chainOf bytes ≡ c
+  pub form-is : formOf bytes ≡ form
   pub accepted : fileChecked zerosTaken bytes ≡ accepts (length (c .columns))
 
-pub file-forth : (c : Rows) → Sound c → ((i : ℕ) → getD (c .rates) i 0 < 4294967296) → Holds (fileOf c) c
-file-forth c g small =
+pub file-forth : (form : Form) (c : Rows) → Sound c → ((i : ℕ) → getD (c .rates) i 0 < 4294967296) → Holds form (fileOf form c) c
+file-forth form c g small =
     let s = g .starts-rule in
     let n = c .order in
     let q : c .starts ≡ 0 ∷ drop 1 (c .starts) =
     drop-cons (c .starts) 0 0 (omega (arith, s .count)) ∙ ap (λ (x : ℕ). x ∷ drop 1 (c .starts)) (s .first) in
     let f : RowsKept (c .order) 0 (c .starts) (c .columns) (c .rates) = rw (s .first) at (kept-from g (c .order) 0 (omega arith)) in
-    let r : RowsRead (fileOf c) (c .order) (c .order) 0 1 0 (c .starts) (c .columns) (c .rates) =
-    subst (λ (l : List ℕ). RowsRead (fileOf (rows n l (c .columns) (c .rates))) n n 0 1 0 l (c .columns) (c .rates)) (sym q)
-    (from-zero n (drop 1 (c .starts)) (c .columns) (c .rates) (omega (arith, g .order .low)) (omega (arith, length-drop 1 (c .starts), s .count))
+    let r : RowsRead form (fileOf form c) (c .order) (c .order) 0 1 0 (c .starts) (c .columns) (c .rates) =
+    subst (λ (l : List ℕ). RowsRead form (fileOf form (rows n l (c .columns) (c .rates))) n n 0 1 0 l (c .columns) (c .rates)) (sym q)
+    (from-zero form n (drop 1 (c .starts)) (c .columns) (c .rates) (omega (arith, g .order .low)) (omega (arith, length-drop 1 (c .starts), s .count))
     (subst (λ (l : List ℕ). RowsKept n 0 l (c .columns) (c .rates)) q f) small) in
+    let o : orderOf (fileOf form c) ≡ c .order = order-in (c .order) (omega (arith, g .order .low)) (g .order .high) form in
+    let f′ : formOf (fileOf form c) ≡ form = form-in (c .order) (omega (arith, g .order .low)) (g .order .high) form in
     record {
-      chain-is = λ i. rows n (r .starts-are i) (r .columns-are i) (r .rates-are i);
+      chain-is = rw (o, f′) (λ i. rows n (r .starts-are i) (r .columns-are i) (r .rates-are i));
+      form-is = f′;
       accepted =
           sym
-          (file-rows zerosTaken (fileOf c) (omega arith) (order-of n (g .order)) (accepts (length (c .columns)))
-          (ap accepts (sym (zero-add (length (c .columns)))) ∙ sym (r .sound)));
+          (file-rows zerosTaken (fileOf form c) (omega arith) (rw o (order-of n (g .order))) (accepts (length (c .columns)))
+          (rw (o, f′) (ap accepts (sym (zero-add (length (c .columns)))) ∙ sym (r .sound))));
     }

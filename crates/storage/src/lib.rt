@@ -8,16 +8,26 @@ ghost use Rattle.storage.specs.Reading.{told, Read};
 ghost use Rattle.storage.specs.Writing.{Written};
 use checking::check_file;
 use checking::room_for;
+use layout::Form;
+use layout::form_in;
+use layout::maps_of;
+use layout::order_in;
 use packing::fill::fill_rows;
 use packing::put::put_chain;
+use packing::put::rates_size;
 use refusal::BytesReason;
 use refusal::ChainReason;
 use refusal::Outcome;
 use refusal::Refusal;
 
-// What a reading gives: the order and the number of entries of the chain that now stands in the lent slices, or its refusal.
+// What a reading gives: the order and the number of entries of the chain that now stands in the lent slices, and the form of its file;
+// or its refusal.
 pub enum Reading {
-    Chain { order: usize, entries: usize },
+    Chain {
+        order: usize,
+        entries: usize,
+        form: Form,
+    },
     Refused(Refusal),
 }
 
@@ -28,9 +38,15 @@ fn judge(bytes: &[u8], zeros: bool, starts: usize, columns: usize, rates: usize)
     match check_file(bytes, zeros) {
         Outcome::Refused(refusal) => Reading::Refused(refusal),
         Outcome::Done(entries) => {
-            let order = bytes[0] as usize;
+            let first = bytes[0] as usize;
+            let order = order_in(first);
             if room_for(order, entries, starts, columns, rates) {
-                return Reading::Chain { order, entries };
+                let form = form_in(first);
+                return Reading::Chain {
+                    order,
+                    entries,
+                    form,
+                };
             }
             Reading::Refused(Refusal::Bytes(BytesReason::Room))
         }
@@ -52,10 +68,15 @@ fn read_by(
         ⌝ }
 {
     let answer = judge(bytes, zeros, starts.len(), columns.len(), rates.len());
-    let Reading::Chain { order, entries } = answer else {
+    let Reading::Chain {
+        order,
+        entries,
+        form,
+    } = answer
+    else {
         return answer;
     };
-    fill_rows(bytes, order, starts, columns, rates, entries);
+    fill_rows(bytes, form, order, starts, columns, rates, entries);
     answer
 }
 
@@ -86,10 +107,17 @@ pub fn read_with_zeros(
     read_by(bytes, true, starts, columns, rates)
 }
 
-// A chain, stored in the lent bytes: the number of bytes. A refusal of the check is passed on unchanged.
-pub fn write(n: usize, starts: &[u32], columns: &[u32], rates: &[u32], out: &mut [u8]) -> Outcome
+// A chain, stored in the lent bytes in a form: the number of bytes. A refusal of the check is passed on unchanged.
+pub fn write(
+    form: Form,
+    n: usize,
+    starts: &[u32],
+    columns: &[u32],
+    rates: &[u32],
+    out: &mut [u8],
+) -> Outcome
     ensures { λ r. ⌜
-        Written (inRows n (starts .entry) (columns .entry) (rates .entry))
+        Written form (inRows n (starts .entry) (columns .entry) (rates .entry))
         (now (out .entry)) r (now (out .exit))
         ⌝ }
 {
@@ -97,10 +125,10 @@ pub fn write(n: usize, starts: &[u32], columns: &[u32], rates: &[u32], out: &mut
     let Outcome::Done(entries) = answer else {
         return answer;
     };
-    let size = 1 + n * ((n + 7) / 8) + 4 * entries;
+    let size = 1 + n * maps_of(form, n) + rates_size(form, rates);
     if out.len() < size {
         return Outcome::Refused(Refusal::Chain(ChainReason::Room));
     }
-    put_chain(n, starts, columns, rates, out, entries);
+    put_chain(form, n, starts, columns, rates, out, entries);
     Outcome::Done(size)
 }

@@ -1,7 +1,8 @@
-// Reads files, each after its length in two bytes, low byte first, and prints a line on each: the order and the number of
-// entries of the chain and whether writing it gives the same bytes again, or the refusal. A second line says the same where less
+// Reads files, each after its length in two bytes, low byte first, and prints a line on each: the order, the number of entries, the
+// form, and whether writing the chain in that form gives the same bytes again, or the refusal. A second line says the same where less
 // room is lent than many a chain needs.
 use framed::Next;
+use layout::Form;
 use libc::STDIN_FILENO;
 use libc::STDOUT_FILENO;
 use refusal::Outcome;
@@ -41,16 +42,17 @@ fn begins(buffer: &[u8], bytes: &[u8]) -> bool {
     true
 }
 
-// Writes a chain that was read, and says whether the bytes are those it was read from.
+// Writes a chain that was read in the form of its file, and says whether the bytes are those it was read from.
 fn write_back(
     bytes: &[u8],
+    form: Form,
     order: usize,
     starts: &[u32],
     columns: &[u32],
     rates: &[u32],
     out: &mut [u8],
 ) {
-    match storage::write(order, starts, columns, rates, out) {
+    match storage::write(form, order, starts, columns, rates, out) {
         Outcome::Done(size) => {
             if size == bytes.len() && begins(out, bytes) {
                 io::write_all(STDOUT_FILENO, b" same");
@@ -66,8 +68,16 @@ fn write_back(
     }
 }
 
+fn form_number(form: Form) -> usize {
+    match form {
+        Form::One => 1,
+        Form::Two => 2,
+    }
+}
+
 fn print_chain(
     bytes: &[u8],
+    form: Form,
     order: usize,
     entries: usize,
     starts: &[u32],
@@ -78,9 +88,11 @@ fn print_chain(
     io::write_all(STDOUT_FILENO, b"chain");
     print_number(order);
     print_number(entries);
+    print_number(form_number(form));
     if order < starts.len() && entries <= columns.len() && entries <= rates.len() {
         write_back(
             bytes,
+            form,
             order,
             &starts[..order + 1],
             &columns[..entries],
@@ -99,15 +111,11 @@ fn print_line(
     out: &mut [u8],
 ) {
     match storage::read(bytes, starts, columns, rates) {
-        Reading::Chain { order, entries } => print_chain(
-            bytes,
+        Reading::Chain {
             order,
             entries,
-            starts,
-            columns,
-            rates,
-            out,
-        ),
+            form,
+        } => print_chain(bytes, form, order, entries, starts, columns, rates, out),
         Reading::Refused(refusal) => print_refusal(refusal),
     }
 }

@@ -3,6 +3,7 @@ use mathlib.Core.List.{List, [], _∷_}
 use mathlib.Core.Path.{_≡_, refl}
 use Prim.Native.Nat.{ℕ}
 use Rattle.refusal.specs.Table.{of-chain, of-bytes, accepts, refuses, numbered}
+use Rattle.layout.specs.declared.Form.the-variants.{One, Two}
 use Rattle.joined.specs.Verdict.{of-first, of-second, of-joint}
 use Rattle.telling.specs.Answer.{sideNumber, partNumber, handed, CountTold, ReadingTold, JoiningTold}
 
@@ -26,10 +27,14 @@ module _ {r : ℕ} {answer′ : List ℕ} where
   unfolding handed
   chain-refused t = (t .returned, t .answer-is)
 
-  -- a reading: the order, then the number of entries; and a refusal of the bytes
-  pub reading-told : ReadingTold (accepts (9, 10)) sevens r answer′ → (r ≡ 0) × (answer′ ≡ 9 ∷ 10 ∷ 0 ∷ 7 ∷ 7 ∷ [])
+  -- a reading: the order, then the number of entries, then the number of the form; and a refusal of the bytes
+  pub reading-told : ReadingTold (accepts (9, 10, One)) sevens r answer′ → (r ≡ 0) × (answer′ ≡ 9 ∷ 10 ∷ 1 ∷ 7 ∷ 7 ∷ [])
   unfolding handed
   reading-told t = (t .returned, t .answer-is)
+
+  pub short-told : ReadingTold (accepts (9, 10, Two)) sevens r answer′ → (r ≡ 0) × (answer′ ≡ 9 ∷ 10 ∷ 2 ∷ 7 ∷ 7 ∷ [])
+  unfolding handed
+  short-told t = (t .returned, t .answer-is)
 
   pub bytes-refused : ReadingTold (refuses of-bytes (numbered 14 3 8)) sevens r answer′ → (r ≡ 14) × (answer′ ≡ 3 ∷ 8 ∷ 1 ∷ 7 ∷ 7 ∷ [])
   unfolding handed

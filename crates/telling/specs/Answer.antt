@@ -8,6 +8,8 @@ use lib.ListN.{length}
 use lib.Seq.{sets}
 use Rattle.refusal.specs.declared.Line.{Line}
 use Rattle.refusal.specs.Table.{Side, of-chain, of-bytes, Verdict, accepts, refuses}
+use Rattle.layout.specs.declared.Form.{Form}
+use Rattle.layout.specs.Forms.{formNumber}
 use Rattle.joined.specs.Verdict.{Whose, of-first, of-second, of-joint}
 
 -- the number that is returned: 0, or document 01's number of the refusal
@@ -29,9 +31,9 @@ abbrev pub countPlaces : Verdict ℕ → List ℕ
 countPlaces (accepts count) = count ∷ 0 ∷ 0 ∷ []
 countPlaces (refuses side line) = refusalPlaces side line
 
--- the three places of a reading: the order and the number of entries
-abbrev pub readPlaces : Verdict (ℕ × ℕ) → List ℕ
-readPlaces (accepts (order, entries)) = order ∷ entries ∷ 0 ∷ []
+-- the three places of a reading: the order, the number of entries and the number of the form
+abbrev pub readPlaces : Verdict (ℕ × ℕ × Form) → List ℕ
+readPlaces (accepts (order, entries, form)) = order ∷ entries ∷ formNumber form ∷ []
 readPlaces (refuses side line) = refusalPlaces side line
 
 -- which part a refusal is of: 0 the joint chain, 1 the first part, 2 the second part
@@ -59,7 +61,7 @@ pub record Told (number : ℕ) (places answer : List ℕ) (r : ℕ) (answer′ :
 abbrev pub CountTold : Verdict ℕ → List ℕ → ℕ → List ℕ → Type 0
 CountTold v = Told (numberOf v) (countPlaces v)
 
-abbrev pub ReadingTold : Verdict (ℕ × ℕ) → List ℕ → ℕ → List ℕ → Type 0
+abbrev pub ReadingTold : Verdict (ℕ × ℕ × Form) → List ℕ → ℕ → List ℕ → Type 0
 ReadingTold v = Told (numberOf v) (readPlaces v)
 
 abbrev pub JoiningTold : Whose × Verdict ℕ → List ℕ → ℕ → List ℕ → Type 0

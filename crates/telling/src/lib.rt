@@ -3,10 +3,12 @@
 ghost use mathlib.Core.List.{[], _∷_};
 ghost use mathlib.Core.Path.{_≡_};
 ghost use Rattle.refusal.specs.Table.{side, line, verdict};
+ghost use Rattle.layout.specs.Forms.{formNumber};
 ghost use Rattle.storage.specs.Reading.{told};
 ghost use Rattle.joint.specs.Joining.{toldJoining};
 ghost use Rattle.telling.specs.Answer.{sideNumber, refusalPlaces, handed, Told, CountTold, ReadingTold, JoiningTold};
 use joint::Joining;
+use layout::Form;
 use refusal::Outcome;
 use refusal::Refusal;
 use storage::Reading;
@@ -74,14 +76,28 @@ pub fn tell_count(outcome: Outcome, answer: &mut [usize]) -> u32
     }
 }
 
-// A reading: its order and its number of entries. The number of the refusal is returned, or 0.
+// The number of a form.
+fn form_number(form: Form) -> usize
+    ensures { λ r. ⌜ r ≡ formNumber form ⌝ }
+{
+    match form {
+        Form::One => 1,
+        Form::Two => 2,
+    }
+}
+
+// A reading: its order, its number of entries and the number of its form. The number of the refusal is returned, or 0.
 pub fn tell_reading(reading: Reading, answer: &mut [usize]) -> u32
     ensures { λ r. ⌜ ReadingTold (told reading) (now (answer .entry)) r (now (answer .exit)) ⌝ }
 {
     match reading {
         Reading::Refused(refusal) => tell_refusal(refusal, answer),
-        Reading::Chain { order, entries } => {
-            put(answer, order, entries, 0);
+        Reading::Chain {
+            order,
+            entries,
+            form,
+        } => {
+            put(answer, order, entries, form_number(form));
             0
         }
     }

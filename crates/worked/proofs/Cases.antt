@@ -15,6 +15,7 @@ use Rattle.reach.specs.Reach.{via}
 use Rattle.reach.specs.ClosedSets.{settles, isLowest, firstLowest, secondLowest, lowestSet}
 use Rattle.reach.specs.Answer.{oneClosed, answered, setOf}
 use Rattle.kernel.specs.Numbers.{plus, times, dividedBy}
+use Rattle.layout.specs.Forms as forms
 use Rattle.layout.specs.Bytes as bytes
 use Rattle.checking.specs.Verdict as reading
 use Rattle.solver.specs.Lent.{enough}
@@ -29,11 +30,14 @@ unfolding solved enough table weightsOf sharesOf entries setSize countOf plus ti
     weight over sum prod count put leads led all moves boundCount
     size member alone spread setWeight setWeights setShares
     checked rulesChecked startsSound columnsChecked entryBad zerosChecked rateIn answered oneClosed setOf lowestSet firstLowest secondLowest isLowest settles via
-    bytes.bitAt bytes.storedRate reading.readVerdict reading.fileChecked reading.rowChecked reading.rateChecked reading.roomToRead
+    forms.formIn forms.orderIn bytes.bitAt bytes.shortRate bytes.storedRate reading.readVerdict reading.fileChecked reading.rowChecked
+    reading.marksChecked reading.rateChecked reading.markChecked reading.roomToRead
 cases-hold = record {
   case-1 = record { accepted = refl; exact-weights = refl; weights-are = refl; shares-are = refl };
   case-2 = record { accepted = refl; exact-weights = refl; weights-are = refl; shares-are = refl };
   case-2-stored = record { accepted = refl; chain-is = refl; file-is = refl };
+  case-1-short = record { accepted = refl; chain-is = refl; file-is = refl };
+  case-2-short = record { accepted = refl; chain-is = refl; file-is = refl };
   case-3 = record { accepted = refl; exact-weights = refl; weights-are = refl; shares-are = refl };
   case-4 = record { accepted = refl; exact-weights = refl; weights-are = refl; shares-are = refl };
   case-5 = refl;
@@ -44,6 +48,7 @@ cases-hold = record {
   case-2-twice = record { accepted = refl; exact-weights = refl; weights-are = refl; shares-are = refl };
   order-of-operations = record { accepted = refl; exact-weights = refl; weights-are = refl; shares-are = refl };
   bytes-stored = record { accepted = refl; chain-is = refl; file-is = refl };
+  bytes-mixed = record { accepted = refl; chain-is = refl; file-is = refl };
   refusal-5 = refl;
   other-slices = (refl, refl, refl, refl, refl);
   order-14-5 = refl;
@@ -52,4 +57,6 @@ cases-hold = record {
   traps = refl;
   case-8 = (refl, refl, refl, refl);
   case-9 = (λ starts columns rates. refl, λ starts columns rates. refl, λ starts columns rates. refl);
+  case-9-short = (λ starts columns rates. refl, λ starts columns rates. refl, λ starts columns rates. refl);
+  refusal-16 = (λ starts columns rates. refl, λ starts columns rates. refl);
 }

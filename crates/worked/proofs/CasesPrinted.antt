@@ -23,9 +23,11 @@ use Rattle.chain.specs.Meaning.{rateIn}
 use Rattle.reach.specs.Reach.{via}
 use Rattle.reach.specs.ClosedSets.{settles, isLowest, firstLowest, secondLowest, lowestSet}
 use Rattle.reach.specs.Answer.{oneClosed, answered, setOf}
-use Rattle.layout.specs.Bytes.{bitAt, storedRate, chainOf}
+use Rattle.layout.specs.declared.Form.the-variants.{One}
+use Rattle.layout.specs.Forms.{formIn, orderIn}
+use Rattle.layout.specs.Bytes.{bitAt, storedRate, formOf, chainOf}
 use Rattle.checking.specs.Sound.{zerosTaken, zerosRefused}
-use Rattle.checking.specs.Verdict.{fileChecked, rowChecked, rateChecked}
+use Rattle.checking.specs.Verdict.{fileChecked, rowChecked, marksChecked, rateChecked, markChecked}
 use Rattle.solver.specs.Solve.{setSize, weightsOf, sharesOf, countOf, solved}
 use Rattle.group_shares.specs.GroupShares.{groupSharesOf}
 use Rattle.lines.specs.Lines.{answerLines}
@@ -67,11 +69,11 @@ module _ {out after : List ℕ} {k : ℕ} where
   pub count-within : {bytes : List ℕ} → Reports bytes out after k → k ≤ 2519
   count-within s = s .within
 
-  pub first-bytes-suffice : {bytes : List ℕ} → Reports bytes out after k → reportOf (take 16642 bytes) ≡ reportOf bytes
+  pub first-bytes-suffice : {bytes : List ℕ} → Reports bytes out after k → reportOf (take 17154 bytes) ≡ reportOf bytes
   first-bytes-suffice s = s .suffices
 
   pub printed-2 : Reports printed out after k → Printed printed 8
-  unfolding solved countOf setSize size count fileChecked rowChecked rateChecked bitAt storedRate
+  unfolding solved countOf setSize size count fileChecked rowChecked marksChecked rateChecked markChecked formIn orderIn bitAt storedRate
       checked rulesChecked startsSound columnsChecked entryBad zerosChecked rateIn
       answered oneClosed setOf firstLowest secondLowest lowestSet isLowest settles all via sum boundCount
   printed-2 s = s .printed {e = 2} {K = 8} refl refl
@@ -79,23 +81,23 @@ module _ {out after : List ℕ} {k : ℕ} where
 -- what is printed of a chain that is solved
 module _ {K : ℕ} (p : Printed printed K) where
   pub lines-2 : reportOf printed ≡ answerLines 2 K (weightsOf chain2) (sharesOf chain2)
-  unfolding bitAt storedRate
+  unfolding formIn orderIn bitAt storedRate
   lines-2 = p .text
 
   pub count-2 : K ≡ 8
-  unfolding bitAt storedRate countOf setSize size setOf lowestSet firstLowest isLowest settles all via rateIn sum count boundCount
+  unfolding formIn orderIn bitAt storedRate countOf setSize size setOf lowestSet firstLowest isLowest settles all via rateIn sum count boundCount
   count-2 = p .count
 
   pub set-2 : (other : ℕ → Bool) → Closed 2 (rateIn chain2) other → other 0 ≡ true
-  unfolding bitAt storedRate setOf lowestSet firstLowest isLowest settles all via rateIn sum
+  unfolding formIn orderIn bitAt storedRate setOf lowestSet firstLowest isLowest settles all via rateIn sum
   set-2 other c = p .the-set .only other c 0 (lit< tt)
 
   pub proportion-2 : (w : ℕ → ℕ) → Balances 2 (rateIn chain2) w → w 0 * 3 ≡ w 1 * 1
-  unfolding bitAt storedRate
+  unfolding formIn orderIn bitAt storedRate
   proportion-2 w b = rw (exact-0, exact-1) at (p .balances .unique w b .at 0 1 (lit< tt) (lit< tt))
 
   pub last-weight-2 : weightsOf chain2 1 ≡ oneNumber
-  unfolding bitAt storedRate
+  unfolding formIn orderIn bitAt storedRate
   last-weight-2 = rw last-2 at (p .bounds .last-weight)
 
 -- ---- cleaning
@@ -104,57 +106,61 @@ abbrev new6 : List ℕ
 new6 = 2 ∷ 0 ∷ 1 ∷ 5 ∷ 0 ∷ 0 ∷ 0 ∷ []
 
 module _ {out after : List ℕ} {k : ℕ} where
-  -- a buffer of 16641 bytes or more has room, one of fewer is kept
-  pub file-put : Rewrites stored6 out after k → 16641 ≤ length out → after ≡ sets out 0 new6
+  -- a buffer of 17153 bytes or more has room, one of fewer is kept
+  pub file-put : Rewrites stored6 out after k → 17153 ≤ length out → after ≡ sets out 0 new6
   file-put s h = rw (le-leb _ _ h, cleaning.case-6) at (s .out-is)
 
-  pub no-file-put : {bytes : List ℕ} → Rewrites bytes out after k → length out < 16641 → after ≡ out
+  pub no-file-put : {bytes : List ℕ} → Rewrites bytes out after k → length out < 17153 → after ≡ out
   no-file-put s h = rw (lt-leb _ _ h) at (s .out-is)
 
-  pub file-counted : Rewrites stored6 out after k → 16641 ≤ length out → k ≡ 7
+  pub file-counted : Rewrites stored6 out after k → 17153 ≤ length out → k ≡ 7
   file-counted s h = rw (le-leb _ _ h, cleaning.case-6) at (s .count-is)
 
-  pub no-file-counted : {bytes : List ℕ} → Rewrites bytes out after k → length out < 16641 → k ≡ 0
+  pub no-file-counted : {bytes : List ℕ} → Rewrites bytes out after k → length out < 17153 → k ≡ 0
   no-file-counted s h = rw (lt-leb _ _ h) at (s .count-is)
 
-  pub file-within : {bytes : List ℕ} → Rewrites bytes out after k → k ≤ 16641
+  pub file-within : {bytes : List ℕ} → Rewrites bytes out after k → k ≤ 17153
   file-within s = s .within
 
-  pub file-bytes-suffice : {bytes : List ℕ} → Rewrites bytes out after k → cleanOf (take 16642 bytes) ≡ cleanOf bytes
+  pub file-bytes-suffice : {bytes : List ℕ} → Rewrites bytes out after k → cleanOf (take 17154 bytes) ≡ cleanOf bytes
   file-bytes-suffice s = s .suffices
 
   -- case 2's file is clean
   pub unchanged-2 : Rewrites printed out after k → cleanOf printed ≡ printed
-  unfolding fileChecked rowChecked rateChecked bitAt storedRate
+  unfolding fileChecked rowChecked marksChecked rateChecked markChecked formIn orderIn bitAt storedRate
   unchanged-2 s = s .unchanged {e = 2} refl
 
   -- a zero rate and then the end is 8; no refusal is 14
   pub cut-off : Rewrites (2 ∷ 2 ∷ 0 ∷ 0 ∷ 0 ∷ 0 ∷ []) out after k → cleanOf (2 ∷ 2 ∷ 0 ∷ 0 ∷ 0 ∷ 0 ∷ []) ≡ refusedLine (numbered 8 0 0)
-  unfolding fileChecked rowChecked rateChecked bitAt storedRate
+  unfolding fileChecked rowChecked marksChecked rateChecked markChecked formIn orderIn bitAt storedRate
   cut-off s = s .turned-away refl .0
 
   pub never-14 : {bytes : List ℕ} {side : Side} {line : Line} → Rewrites bytes out after k → fileChecked zerosTaken bytes ≡ refuses side line → line .number ≢ 14
   never-14 s q = s .turned-away q .1
 
   pub cleaned-6 : Rewrites stored6 out after k → CleanedFile stored6
-  unfolding fileChecked rowChecked rateChecked bitAt storedRate
+  unfolding fileChecked rowChecked marksChecked rateChecked markChecked formIn orderIn bitAt storedRate
   cleaned-6 s = s .file {e = 2} refl
 
 -- what is promised of the cleaned file
 module _ (f : CleanedFile stored6) where
   pub accepted-6 : fileChecked zerosRefused (cleanOf stored6) ≡ accepts 1
-  unfolding bitAt storedRate cleaned
+  unfolding formIn orderIn bitAt storedRate cleaned
   accepted-6 = f .accepted
 
   pub chain-6 : chainOf (cleanOf stored6) ≡ cleaned6
-  unfolding bitAt storedRate cleaned
+  unfolding formIn orderIn bitAt storedRate cleaned
   chain-6 = f .chain
+
+  pub form-6 : formOf (cleanOf stored6) ≡ One
+  unfolding formIn
+  form-6 = f .form
 
   -- the text that the old file had by the rules until R-5
   pub text-6 : reportOf (cleanOf stored6) ≡ reportOf new6
   text-6 = f .text ∙ cleaning.texts-6 .0 ∙ sym (cleaning.texts-6 .1)
 
-  pub first-byte-6 : getD (cleanOf stored6) 0 0 ≤ 64
+  pub first-byte-6 : getD (cleanOf stored6) 0 0 ≢ 114
   first-byte-6 = f .first-byte
 
   pub shorter-6 : length (cleanOf stored6) ≤ 11
@@ -192,5 +198,5 @@ module _ {new : Rows} (s : SameAnswer chain6 new) where
   group-6 = s .groups (0 ∷ 1 ∷ 3 ∷ []) 3
 
 pub same-6 : CleanedFile stored6 → SameAnswer chain6 (chainOf (cleanOf stored6))
-unfolding bitAt storedRate
+unfolding formIn orderIn bitAt storedRate
 same-6 f = f .same

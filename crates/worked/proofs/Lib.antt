@@ -13,6 +13,7 @@ pub mod CasesGroupsSolved
 pub mod CasesJoins
 pub mod CasesStored
 pub mod CasesPrinted
+pub mod CasesConverted
 pub mod CasesReach
 pub mod CasesRounded
 pub mod CasesWhole

@@ -1,7 +1,7 @@
 -- Document 01, "Chains worked on paper (those marked * go in the proved table)": the single table of the starred cases, 1 to 9, with
 -- cases 6 and 7 and the example of refusal 6 as R-3 and R-5 have them; two rows more for R-3, with states outside the set and with two sets, one
--- for R-6, case 2 beside itself, one whose bits tell the order of the operations, two of stored rates and maps of several bytes, and refusal 5 with
--- its place in the order; and what its rows say, over the definitions that the contracts of the calls cite. `cases-hold` in proofs/Cases.antt proves it.
+-- for R-6, case 2 beside itself, one whose bits tell the order of the operations, one of stored rates of several bytes, those of R-8's form 2, and
+-- refusal 5 with its place in the order; and what its rows say, over the definitions that the contracts of the calls cite. `cases-hold` in proofs/Cases.antt proves it.
 use mathlib.Core.List.{List, [], _∷_}
 use mathlib.Core.Path.{_≡_}
 use Prim.Native.Nat.{ℕ, _+_, _*_}
@@ -16,6 +16,8 @@ use Rattle.markov.specs.Count.{boundCount}
 use Rattle.chain.specs.Rows.{Rows, rows}
 use Rattle.chain.specs.Meaning.{rateIn}
 use Rattle.reach.specs.Answer.{setOf}
+use Rattle.layout.specs.declared.Form.{Form}
+use Rattle.layout.specs.declared.Form.the-variants.{One, Two}
 use Rattle.layout.specs.Bytes.{chainOf}
 use Rattle.checking.specs.Sound.{zerosRefused}
 use Rattle.checking.specs.Verdict.{readVerdict}
@@ -65,11 +67,11 @@ Refuses c line = answer c ≡ refuses of-chain line
 abbrev pub Unreadable : List ℕ → Line → Type 0
 Unreadable bytes line = (starts columns rates : ℕ) → readVerdict zerosRefused bytes starts columns rates ≡ refuses of-bytes line
 
--- these bytes are read as this chain, into slices of just the needed lengths, and they are its file
-pub record Stores (bytes : List ℕ) (c : Rows) : Type 0 where
-  pub accepted : readVerdict zerosRefused bytes (c .order + 1) (length (c .columns)) (length (c .rates)) ≡ accepts (c .order, length (c .columns))
+-- these bytes are read as this chain in this form, into slices of just the needed lengths, and they are its file
+pub record Stores (form : Form) (bytes : List ℕ) (c : Rows) : Type 0 where
+  pub accepted : readVerdict zerosRefused bytes (c .order + 1) (length (c .columns)) (length (c .rates)) ≡ accepts (c .order, length (c .columns), form)
   pub chain-is : chainOf bytes ≡ c
-  pub file-is : fileOf c ≡ bytes
+  pub file-is : fileOf form c ≡ bytes
 
 -- ---- the chains
 
@@ -132,9 +134,20 @@ chainBytes = rows 2 (0 ∷ 1 ∷ 2 ∷ []) (1 ∷ 0 ∷ []) (67305985 ∷ 134678
 abbrev pub storedBytes : List ℕ
 storedBytes = 2 ∷ 2 ∷ 1 ∷ 2 ∷ 3 ∷ 4 ∷ 1 ∷ 5 ∷ 6 ∷ 7 ∷ 8 ∷ []
 
+-- in form 2: the rate from 0 to 1 is 513, short, and stored as 01 02; that back is as above
+abbrev pub chainMixed : Rows
+chainMixed = rows 2 (0 ∷ 1 ∷ 2 ∷ []) (1 ∷ 0 ∷ []) (513 ∷ 134678021 ∷ [])
+
+abbrev pub storedMixed : List ℕ
+storedMixed = 130 ∷ 2 ∷ 2 ∷ 1 ∷ 2 ∷ 1 ∷ 0 ∷ 5 ∷ 6 ∷ 7 ∷ 8 ∷ []
+
 -- "02 02 03 00 00 00 01 01 00 00 00", whose printed lines case 2 refers to
 abbrev pub printed : List ℕ
 printed = 2 ∷ 2 ∷ 3 ∷ 0 ∷ 0 ∷ 0 ∷ 1 ∷ 1 ∷ 0 ∷ 0 ∷ 0 ∷ []
+
+-- and the same chain in form 2
+abbrev pub printedShort : List ℕ
+printedShort = 130 ∷ 2 ∷ 2 ∷ 3 ∷ 0 ∷ 1 ∷ 1 ∷ 1 ∷ 0 ∷ []
 
 -- ---- the table
 
@@ -150,7 +163,10 @@ pub record Cases : Type 0 where
       (scaled 2863311531 (minus 33) ∷ scaled 2147483648 (minus 31) ∷ [])
       (scaled 2147483648 (minus 33) ∷ scaled 3221225472 (minus 32) ∷ [])
   -- and the bytes of that print
-  pub case-2-stored : Stores printed chain2
+  pub case-2-stored : Stores One printed chain2
+  -- R-8: "Stored form 2 starts with 128 + n": case 1 as 81 00 00, and case 2
+  pub case-1-short : Stores Two (129 ∷ 0 ∷ 0 ∷ []) chain1
+  pub case-2-short : Stores Two printedShort chain2
   -- "weights 4, 2, 1; exact 32, 16, 8; shares (2454267026, -32), (2454267026, -33), (2454267026, -34)"
   pub case-3 : Solves chain3 28 (32 ∷ 16 ∷ 8 ∷ [])
       (scaled 2147483648 (minus 29) ∷ scaled 2147483648 (minus 30) ∷ scaled 2147483648 (minus 31) ∷ [])
@@ -162,7 +178,7 @@ pub record Cases : Type 0 where
   -- "Rate 3 is (3221225472, -30)."
   pub case-5 : rateOf 3 ≡ scaled 3221225472 (minus 30)
   -- "Case 6 becomes 14, (0, 1)", in the chain and in its file
-  pub case-6 : Refuses chain6 (numbered 14 0 1) × (fileOf chain6 ≡ stored6) × Unreadable stored6 (numbered 14 0 1)
+  pub case-6 : Refuses chain6 (numbered 14 0 1) × (fileOf One chain6 ≡ stored6) × Unreadable stored6 (numbered 14 0 1)
   -- its cleaned twin: the closed set is state 0 alone
   pub case-6-cleaned : Solves cleaned6 0 (1 ∷ 0 ∷ []) (scaled 2147483648 (minus 31) ∷ zeroNumber ∷ []) (scaled 2147483648 (minus 31) ∷ zeroNumber ∷ [])
   -- accepted since R-3: the closed set has the states 0 and 1
@@ -181,7 +197,9 @@ pub record Cases : Type 0 where
       (scaled 3274912559 (minus 60) ∷ scaled 2147483649 (minus 31) ∷ scaled 3435973832 (minus 32) ∷ scaled 2147483648 (minus 31) ∷ [])
       (scaled 2339223254 (minus 61) ∷ scaled 3067833781 (minus 33) ∷ scaled 2454267021 (minus 33) ∷ scaled 3067833780 (minus 33) ∷ [])
   -- "four bytes each, low byte first"; maps of two bytes are evaluated in crates `layout` and `checking`
-  pub bytes-stored : Stores storedBytes chainBytes
+  pub bytes-stored : Stores One storedBytes chainBytes
+  -- "two bytes if marked and four otherwise"
+  pub bytes-mixed : Stores Two storedMixed chainMixed
   -- 5: "n = 2, one place for weights", and one place less in each of the other slices
   pub refusal-5 : Short 4 4 1 2 2 2
   pub other-slices : Short 3 4 2 2 2 2 × Short 4 3 2 2 2 2 × Short 4 4 2 1 2 2 × Short 4 4 2 2 1 2 × Short 4 4 2 2 2 1
@@ -195,3 +213,7 @@ pub record Cases : Type 0 where
   pub case-8 : (boundCount 1 ≡ 0) × (boundCount 2 ≡ 8) × (boundCount 3 ≡ 28) × (boundCount 64 ≡ 182784)
   -- "Order byte 0 and 65: 1. Order byte 64 followed by nothing: 8."
   pub case-9 : Unreadable (0 ∷ []) (numbered 1 0 0) × Unreadable (65 ∷ []) (numbered 1 0 0) × Unreadable (64 ∷ []) (numbered 8 0 0)
+  -- the same of form 2: the first bytes 80 and C1, and C0 followed by nothing
+  pub case-9-short : Unreadable (128 ∷ []) (numbered 1 0 0) × Unreadable (193 ∷ []) (numbered 1 0 0) × Unreadable (192 ∷ []) (numbered 8 0 0)
+  -- 16: "a bit of it without its rate", and "A bit that disagrees with its rate's size"
+  pub refusal-16 : Unreadable (130 ∷ 2 ∷ 6 ∷ []) (numbered 16 0 2) × Unreadable (130 ∷ 2 ∷ 0 ∷ 3 ∷ 0 ∷ 0 ∷ 0 ∷ []) (numbered 16 0 1)

@@ -40,7 +40,8 @@ returns : tie.Need-returns
 returns c =
     let put = c .before .before in
     let call = put .before .before .before .before .before .before .before .before in
-    (kept-put (asked (call .before) (call .clean-chain .lifetimes)) (call .clean-chain .ensures) (put .put-file .ensures .0), put .put-file .ensures .1)
+    let form = call .before .before .before .before .before .before .before .before .args .form in
+    (kept-put (asked (call .before) (call .clean-chain .lifetimes)) (call .clean-chain .ensures) form (put .put-file .ensures .0), put .put-file .ensures .1)
 
 pub put-cleaned-spec : {M : Type 1} → statement M
 put-cleaned-spec =

@@ -22,10 +22,13 @@ returns-5 c = c .table-line5 .ensures ∙ rw (c .before .enum-told4 .given .1)
 returns-6 : tie.Need-returns-6
 returns-6 c = c .table-line6 .ensures ∙ rw (c .before .before .reason2 .given .1)
 
+returns-7 : tie.Need-returns-7
+returns-7 c = c .table-line7 .ensures ∙ rw (c .before .before .reason3 .given .1)
+
 pub bytes-line-spec : {M : Type 1} → statement M
 bytes-line-spec =
     tie.close
     (tie.spec
     (λ c. search needs) (λ c κs. search needs) (λ c. search needs) (λ c κs. search needs) (λ c. search needs) (λ c κs. search needs) (λ c. search needs)
-    (λ c κs. search needs) (λ c. search needs) (λ c κs. search needs) (λ c. search needs) (λ c κs. search needs) returns returns-2 returns-3 returns-4
-    returns-5 returns-6)
+    (λ c κs. search needs) (λ c. search needs) (λ c κs. search needs) (λ c. search needs) (λ c κs. search needs) (λ c. search needs) (λ c κs. search needs) returns returns-2 returns-3 returns-4
+    returns-5 returns-6 returns-7)

@@ -20,5 +20,6 @@ pub print-chain-spec : {M : Type 1} → statement M
 print-chain-spec =
     tie.close
     (tie.spec
-    (λ c. search needs) (λ c κs. search needs) (λ c κs. search needs) (λ c κs. search needs) (λ c. search needs) slice-aggregate-write-back
+    (λ c. search needs) (λ c κs. search needs) (λ c κs. search needs) (λ c κs. search needs) (λ c κs. search needs) (λ c κs. search needs)
+    (λ c. search needs) slice-aggregate-write-back
     slice-aggregate-write-back-2 slice-aggregate-write-back-3 (λ c κs. search needs) (λ c. search needs) (λ c. search needs) (λ c. search needs))
