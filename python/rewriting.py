@@ -14,7 +14,7 @@ def chain_of(data, path, names_from=None):
         return read_form(data)
     except Refused as refused:
         names = names_for(data, path, names_from) if names_from and refused.number == 14 else None
-        raise Stop(f"{path}: {refused}: {reason(refused.number, refused.places, names)}", REFUSED) from refused
+        raise Stop(f"{path}: {refused}: {reason(refused.number, refused.places, data, names)}", REFUSED) from refused
 
 
 def rewritten(verb, program, data, path, zeros=False):
@@ -26,7 +26,7 @@ def rewritten(verb, program, data, path, zeros=False):
     except Refused as refused:
         if result != line(refused):
             raise Stop(f"{program} wrote {shown(result)} where {refused} is due", LOST) from refused
-        raise Stop(f"{path}: {refused}: {reason(refused.number, refused.places)}", REFUSED) from refused
+        raise Stop(f"{path}: {refused}: {reason(refused.number, refused.places, data)}", REFUSED) from refused
     if REFUSAL.fullmatch(result):
         raise Stop(f"{program} wrote a refusal that cannot be: {result.decode('ascii').strip()}", LOST)
     try:

@@ -7,7 +7,7 @@ from fractions import Fraction
 from chain_text import is_text, parse, stored_bytes
 from command import LOST, REFUSED, Stop, output, tell
 from doubts import warn
-from stored_chain import LEAD, Refused, cleaned, form_and_order, map_bytes, write
+from stored_chain import LEAD, Refused, cleaned, form_and_order, map_bytes, read, write
 
 REASONS = {
     1: "the number of states is 0 or above 64",
@@ -15,8 +15,7 @@ REASONS = {
     8: "the bytes end early",
     9: "row {0} has an entry at column {1}, which is its own row or no state",
     10: "bytes are left over after the last row",
-    14: "row {0}, column {1}: the entry from {2} to {3} has rate 0, as old files store an unused move; tools/chain clean OLD NEW leaves "
-        "such entries out",
+    14: "row {0}, column {1}: the entry from {2} to {3} has rate 0, as old files store an unused move; {advice}",
     16: "row {0}: bit {1} of its second map stands where there is no rate, or is missing at a rate below 65536",
 }
 # Numbers as the program writes them: no zeros in front, of 32 bits; an exponent may be below 0.
@@ -69,10 +68,19 @@ def called(names, i):
     return f"state {i}" if names is None else names[i]
 
 
-def reason(number, places, names=None):
+def reason(number, places, data, names=None):
     states = [f"state {i}" + (f" ({names[i]})" if names else "") for i in places] if number in (6, 14) else []
     places = states if number == 6 else [*places, *states]
-    return REASONS[number].format(*places)
+    return REASONS[number].format(*places, advice=cleaning(data))
+
+
+def cleaning(data):
+    """What cleaning would make of a file with a zero rate: the rest of it may break another rule, as an unmarked zero in form 2 does."""
+    try:
+        read(data, zeros=True)
+    except Refused as refused:
+        return f"tools/chain clean does not take this file either: {refused}"
+    return "tools/chain clean OLD NEW leaves such entries out"
 
 
 # ---- the program
@@ -125,7 +133,7 @@ def refusal(text, data, names):
     limits = {6: (order, order), 9: (order, bits), 14: (order, order), 16: (order, bits) if form == 2 else (0, 0)}.get(number, (1, 1))
     if number not in REASONS or any(place >= limit for place, limit in zip(places, limits)):
         raise Stop(f"the program wrote a refusal that cannot be: {text.strip()}", LOST)
-    return Stop(f"{text.strip()}: {reason(number, places, names)}", REFUSED)
+    return Stop(f"{text.strip()}: {reason(number, places, data, names)}", REFUSED)
 
 
 # ---- decimal digits

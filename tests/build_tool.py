@@ -6,6 +6,7 @@ import signal
 import subprocess
 import sys
 import time
+from functools import partial
 from pathlib import Path
 
 from tool_checks import CHAIN, ROOT, check, program, ran
@@ -137,11 +138,14 @@ def ended(folder):
         stubborn = 'trap "" TERM;' if number == signal.SIGHUP else ""
         copy = Copy(there, f"(sh -c '{stubborn} echo $$ >>{there}/numbers; while :; do sleep 1; done'; :) &\n"
                            f"sleep 300 & echo $! >>'{there}/numbers'\necho $$ >>'{there}/numbers'\nwait")
+        # these checks may themselves run where the signal is ignored, in the background of a shell or under nohup
         with subprocess.Popen(copy.command(*which), env={**os.environ, **copy.path}, stdout=subprocess.PIPE, stderr=subprocess.PIPE, text=True,
-                              start_new_session=True) as tool:
+                              start_new_session=True, preexec_fn=partial(signal.signal, number, signal.SIG_DFL)) as tool:
             numbers = there / "numbers"
             started = waited(lambda: numbers.exists() and len(numbers.read_text().split()) == 3)
             os.kill(tool.pid, number)
+            if not waited(lambda: tool.poll() is not None, 60):
+                tool.kill()
             out, told = tool.communicate()
         check(f"{name} {which}: status {tool.returncode}", started and tool.returncode == 128 + number and out == "" and "Traceback" not in told)
         left = [int(word) for word in numbers.read_text().split()] if started else []

@@ -24,14 +24,16 @@ PAIRS = (
 )
 TWO, TWO_SHORT = map(bytes.fromhex, PAIRS[0][:2])
 EARLY, SOME, OVER = "the bytes end early", "the number of states is 0 or above 64", "bytes are left over after the last row"
-ZERO = ("row 0, column 1: the entry from state 0 to state 1 has rate 0, as old files store an unused move; tools/chain clean OLD NEW leaves such "
-        "entries out")
+UNUSED = "row 0, column 1: the entry from state 0 to state 1 has rate 0, as old files store an unused move; "
+ZERO = UNUSED + "tools/chain clean OLD NEW leaves such entries out"
+EITHER = UNUSED + "tools/chain clean does not take this file either: refused "  # and by what, which `cleaning` below checks
 OWN = "row 0 has an entry at column {}, which is its own row or no state"
 MARK = "row {}: bit {} of its second map stands where there is no rate, or is missing at a rate below 65536"
 REFUSED = (  # by hand, in form 2
     ("80", "1 0 0", SOME), ("c1", "1 0 0", SOME), ("82", "8 0 0", EARLY), ("82 02", "8 0 0", EARLY), ("82 02 02 03", "8 0 0", EARLY),
     ("82 02 00 030000", "8 0 0", EARLY), ("82 03", "9 0 0", OWN.format(0)), ("82 06 06", "9 0 2", OWN.format(2)),
-    ("82 02 02 0000 00 00", "14 0 1", ZERO), ("82 02 00 00000000 00 00", "14 0 1", ZERO), ("82 00 02", "16 0 1", MARK.format(0, 1)),
+    ("82 02 02 0000 00 00", "14 0 1", ZERO), ("82 02 00 00000000 00 00", "14 0 1", EITHER + "16 0 1"), ("82 02 02 0000 01 03", "14 0 1", EITHER + "16 1 1"),
+    ("82 02 02 0000 01 01 01", "14 0 1", EITHER + "8 0 0"), ("82 02 02 0000 00 00 00", "14 0 1", EITHER + "10 0 0"), ("82 00 02", "16 0 1", MARK.format(0, 1)),
     ("82 02 06", "16 0 2", MARK.format(0, 2)), ("82 00 80", "16 0 7", MARK.format(0, 7)), ("82 02 00 03000000 00 00", "16 0 1", MARK.format(0, 1)),
     ("82 02 02 0300 01 00 01000000", "16 1 0", MARK.format(1, 0)), ("82 02 02 0300 01 01 0100 00", "10 0 0", OVER))
 

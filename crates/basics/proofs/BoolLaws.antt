@@ -45,6 +45,10 @@ pub not-so : (a : Bool) → (a ≡ true → ⊥) → a ≡ false
 not-so true h = absurd (h refl)
 not-so false h = refl
 
+pub is-so : (a : Bool) → (a ≡ false → ⊥) → a ≡ true
+is-so true h = refl
+is-so false h = absurd (h refl)
+
 pub either : (a b : Bool) → (a || b) ≡ true → (a ≡ true) ⊎ (b ≡ true)
 either true b e = inl refl
 either false b e = inr e

@@ -1,10 +1,12 @@
 -- One turn of a search, and what its end says. Assumes nothing.
 use Prim.Native.Nat.{ℕ, zero, suc, _+_, _-_, _<_, _≤_}
-use mathlib.Core.Bool.{Bool, true, false, cond}
+use mathlib.Core.Bool.{Bool, true, false, cond, false≢true}
 use mathlib.Core.Logic.{⊎-elim}
-use mathlib.Core.Path.{_≡_, refl}
+use mathlib.Core.Path.{_≡_, refl, sym, _∙_}
 use native.Mathlib.Nat.{eq-or-lt-of-le}
 use native.Mathlib.Omega.{arith}
+use lib.Dec.{ltb}
+use borrow.Author.Tests.{le-ltb}
 use Rattle.basics.specs.First.{firstOf, first}
 
 module _ (test : ℕ → Bool) (i e : ℕ) where
@@ -46,6 +48,27 @@ first-is test i e l = let z : i + (e - i) ≡ e = omega arith in rw z at (first-
 -- where the first is the end, the test holds at none
 pub first-none : (test : ℕ → Bool) (i e : ℕ) → i ≤ e → first test i e ≡ e → (j : ℕ) → i ≤ j → j < e → test j ≡ false
 first-none test i e l p j a b = first-is test i e l .before j a (omega arith)
+
+module _ (test : ℕ → Bool) (e : ℕ) where
+  f : IsFirst test 0 e (first test 0 e)
+  f = first-is test 0 e (omega arith)
+
+  -- the first number is the one at which the test holds and below which it does not
+  pub first-at : (r : ℕ) → r < e → test r ≡ true → ((j : ℕ) → j < r → test j ≡ false) → first test 0 e ≡ r
+  first-at r l t h = omega (arith, not-lower, not-higher)
+    where
+      not-lower : first test 0 e < r → ⊥
+      not-lower m = false≢true (sym (h _ m) ∙ f .found (omega arith))
+
+      not-higher : r < first test 0 e → ⊥
+      not-higher m = false≢true (sym (f .before r (omega arith) m) ∙ t)
+
+  -- and it is the end where the test holds at none
+  pub first-nowhere : ((j : ℕ) → j < e → test j ≡ false) → first test 0 e ≡ e
+  first-nowhere h = let found : first test 0 e < e → ⊥ = λ l. false≢true (sym (h _ l) ∙ f .found l) in omega (arith, f .high, found)
+
+  pub none-found : ((j : ℕ) → j < e → test j ≡ false) → ltb (first test 0 e) e ≡ false
+  none-found h = le-ltb (first test 0 e) e (omega (arith, first-nowhere h))
 
 -- ---- equal tests have the same first
 

@@ -13,8 +13,8 @@ use Rattle.layout.specs.Bytes.{formOf, chainOf}
 use Rattle.layout.specs.File.{ratesSize, fileOf}
 use Rattle.layout.proofs.FirstByte.{no-letter}
 use Rattle.layout.proofs.Fit.{rates-fit}
-use Rattle.checking.specs.Sound.{zerosTaken, zerosRefused}
-use Rattle.checking.specs.Verdict.{fileChecked}
+use Rattle.file_rules.specs.Sound.{zerosTaken, zerosRefused}
+use Rattle.file_rules.specs.Verdict.{fileChecked}
 use Rattle.storage.proofs.Passes.{file-sound, file-size}
 use Rattle.storage.proofs.Calls.{held-size}
 use Rattle.storage.proofs.ReadWrite.{read-write}

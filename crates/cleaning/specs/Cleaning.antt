@@ -14,8 +14,8 @@ use Rattle.chain.specs.Rows.{Rows}
 use Rattle.chain.specs.Meaning.{rateIn}
 use Rattle.layout.specs.Bytes.{formOf, chainOf}
 use Rattle.layout.specs.File.{fileOf, longestFile, enoughBytes}
-use Rattle.checking.specs.Sound.{zerosTaken, zerosRefused}
-use Rattle.checking.specs.Verdict.{fileChecked}
+use Rattle.file_rules.specs.Sound.{zerosTaken, zerosRefused}
+use Rattle.file_rules.specs.Verdict.{fileChecked}
 use Rattle.solver.specs.Solve.{weightsOf, sharesOf, countOf, solved}
 use Rattle.group_shares.specs.GroupShares.{groupSharesOf}
 use Rattle.refused.specs.Refused.{refusedLine}

@@ -7,7 +7,7 @@ use Rattle.decimal.specs.Decimal.{decimal, decimalDigits}
 use Rattle.layout.specs.Forms.{formIn, orderIn}
 use Rattle.layout.specs.Bytes.{bitAt, shortRate, storedRate}
 use Rattle.layout.proofs.Cases.{twoBytes, twoShort, nineShort}
-use Rattle.checking.specs.Verdict.{fileChecked, rowChecked, rateChecked, marksChecked, markChecked}
+use Rattle.file_rules.specs.Verdict.{fileChecked, rowChecked, rateChecked, marksChecked, markChecked}
 use Rattle.refused.specs.Refused.{refusedLine}
 use Rattle.conversion.specs.Conversion.{convertOf}
 

@@ -14,8 +14,8 @@ use Rattle.chain.proofs.Reading.{accepted-whole}
 use Rattle.layout.specs.declared.Form.{Form}
 use Rattle.layout.specs.Buffers.{Buffers, mostStarts, mostEntries, chainIn}
 use Rattle.layout.specs.File.{fileOf, longestFile, enoughBytes}
-use Rattle.checking.specs.Sound.{zerosRefused}
-use Rattle.checking.specs.Verdict.{fileChecked}
+use Rattle.file_rules.specs.Sound.{zerosRefused}
+use Rattle.file_rules.specs.Verdict.{fileChecked}
 use Rattle.storage.specs.declared.Reading.{Reading}
 use Rattle.storage.specs.declared.Reading.the-variants as reading
 use Rattle.storage.specs.Reading.{told, Stored, Read}

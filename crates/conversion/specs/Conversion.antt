@@ -15,8 +15,8 @@ use Rattle.layout.specs.declared.Form.{Form}
 use Rattle.layout.specs.declared.Form.the-variants.{One, Two}
 use Rattle.layout.specs.Bytes.{formOf, chainOf}
 use Rattle.layout.specs.File.{fileOf, longestFile, enoughBytes}
-use Rattle.checking.specs.Sound.{zerosRefused}
-use Rattle.checking.specs.Verdict.{fileChecked}
+use Rattle.file_rules.specs.Sound.{zerosRefused}
+use Rattle.file_rules.specs.Verdict.{fileChecked}
 use Rattle.refused.specs.Refused.{refusedLine}
 use Rattle.report.specs.Report.{reportOf}
 

@@ -15,7 +15,7 @@ use Rattle.chain.specs.Sound.{Accepted}
 use Rattle.chain.proofs.Reading.{sound-accepted}
 use Rattle.layout.specs.declared.Form.{Form}
 use Rattle.layout.specs.File.{fileOf, fileSize, longestFile}
-use Rattle.checking.specs.Sound.{zerosTaken}
+use Rattle.file_rules.specs.Sound.{zerosTaken}
 use Rattle.storage.specs.Writing.{writeVerdict, Written}
 use Rattle.storage.proofs.Passes.{file-small-both}
 use Rattle.storage.proofs.Calls.{held-size}

@@ -1,16 +1,14 @@
--- How often a test holds below k: at none, at two, at one; and the first number at which it holds. Assumes nothing.
+-- How often a test holds below k: at none, at two, at one. Assumes nothing.
 use Prim.Native.Nat.{ℕ, zero, suc, _<_, _≤_}
-use mathlib.Core.Bool.{Bool, true, false, false≢true}
+use mathlib.Core.Bool.{Bool, true, false}
 use mathlib.Core.Logic.{⊎-elim}
-use mathlib.Core.Path.{_≡_, refl, sym, _∙_}
+use mathlib.Core.Path.{_≡_, refl}
 use native.Mathlib.Nat.{eq-or-lt-of-le}
 use native.Mathlib.Omega.{arith}
 use Rattle.basics.specs.Sum.{sum}
 use Rattle.basics.specs.Below.{count}
-use Rattle.basics.specs.First.{first}
 use Rattle.basics.proofs.SumLaws.{sum-zero, sum-last, sum-pos}
 use Rattle.basics.proofs.TermLaws.{sum-term}
-use Rattle.basics.proofs.FirstLaws.{IsFirst, first-is}
 
 counted : {b : Bool} → b ≡ true → count b ≡ 1
 unfolding count
@@ -67,26 +65,3 @@ module _ (test : ℕ → Bool) where
           let z : count (test k) ≡ 0 = unfold count in rw e in
           let t = ih (omega (arith, sum-last k (λ r. count (test r)))) in
           record { one = t .one; other = t .other; rising = t .rising; below = omega (arith, t .below); at-one = t .at-one; at-other = t .at-other }
-
-  -- the first number is the one at which the test holds and below which it does not
-  pub first-at : (e r : ℕ) → r < e → test r ≡ true → ((j : ℕ) → j < r → test j ≡ false) → first test 0 e ≡ r
-  first-at e r l t h = omega (arith, not-lower, not-higher)
-    where
-      f : IsFirst test 0 e (first test 0 e)
-      f = first-is test 0 e (omega arith)
-
-      not-lower : first test 0 e < r → ⊥
-      not-lower m = false≢true (sym (h _ m) ∙ f .found (omega arith))
-
-      not-higher : r < first test 0 e → ⊥
-      not-higher m = false≢true (sym (f .before r (omega arith) m) ∙ t)
-
-  -- and it is the end where the test holds at none
-  pub first-nowhere : (e : ℕ) → ((j : ℕ) → j < e → test j ≡ false) → first test 0 e ≡ e
-  first-nowhere e h = omega (arith, f .high, found)
-    where
-      f : IsFirst test 0 e (first test 0 e)
-      f = first-is test 0 e (omega arith)
-
-      found : first test 0 e < e → ⊥
-      found l = false≢true (sym (h _ l) ∙ f .found l)

@@ -7,11 +7,10 @@ use native.Mathlib.Omega.{arith}
 use lib.Dec.{ltb}
 use borrow.Author.Tests.{lt-ltb, le-ltb, ltb-true, ltb-false}
 use Rattle.basics.proofs.BoolLaws.{by-true, by-false, not-so}
-use Rattle.basics.proofs.FirstLaws.{IsFirst, first-is}
+use Rattle.basics.proofs.FirstLaws.{IsFirst, first-is, first-at, first-nowhere}
 use Rattle.refusal.specs.Table.{Verdict, accepts, refuses, of-chain, numbered}
 use Rattle.group_table.specs.Rules.{rowCount, rowBad, inTwoRows, inNoRow, firstBadRow, firstInTwo, firstInNone, tableChecked}
 use Rattle.group_table.specs.Sound.{SoundRows, FirstBad, InTwoRows, InOneRow, FirstInTwo, FirstInNone, SoundTable, TableSays, bad-row, in-two-rows, in-no-row, fits}
-use Rattle.group_table.proofs.Counting.{first-at, first-nowhere}
 use Rattle.group_table.proofs.RowLaws.{fault-bad, bad-fault, good-sound, sound-good}
 use Rattle.group_table.proofs.StateLaws.{two-rows, two-rows-of, no-row, no-row-of, one-row, not-in-two, not-in-none}
 

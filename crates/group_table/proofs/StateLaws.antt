@@ -8,9 +8,10 @@ use native.Mathlib.Omega.{arith}
 use lib.Dec.{leb}
 use borrow.Author.Tests.{le-leb, leb-true, leb-false, eqb-true, eqb-false, eq-eqb}
 use Rattle.basics.proofs.BoolLaws.{and-yes, both, not-so}
+use Rattle.basics.proofs.FirstLaws.{first-at}
 use Rattle.group_table.specs.Rules.{rowCount, firstState, groupNumber, holds, holders, inTwoRows, inNoRow, groupOf}
 use Rattle.group_table.specs.Sound.{Held, InTwoRows, InNoRow, InOneRow}
-use Rattle.group_table.proofs.Counting.{once-of, once-at, twice-of, twice-at, first-at}
+use Rattle.group_table.proofs.Counting.{once-of, once-at, twice-of, twice-at}
 
 module _ (table : List ℕ) (state : ℕ) where
   pub held-of : (row : ℕ) → holds table state row ≡ true → Held table state row

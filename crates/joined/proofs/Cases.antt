@@ -15,7 +15,7 @@ use Rattle.markov.specs.Product.{jointRate, jointSet}
 use Rattle.chain.specs.Rows.{Rows, rows}
 use Rattle.chain.specs.Rules.{checked, rulesChecked, zerosChecked, startsSound, columnsChecked, entryBad}
 use Rattle.chain.specs.Meaning.{rateIn}
-use Rattle.checking.specs.Verdict.{roomToRead}
+use Rattle.file_rules.specs.Verdict.{roomToRead}
 use Rattle.from_rates.specs.FromRates.{together, fromRates}
 use Rattle.joined.specs.Joined.{joined, SideBySide}
 use Rattle.joined.specs.Verdict.{of-first, of-second, of-joint, jointTried, joinVerdict}

@@ -11,8 +11,8 @@ use Rattle.chain.specs.Rows.{Rows}
 use Rattle.chain.specs.Rules.{checked}
 use Rattle.chain.specs.Sound.{Accepted}
 use Rattle.chain.proofs.Reading.{checked-says, says-checked, accepted-whole, sound-accepted}
-use Rattle.checking.specs.Verdict.{roomToRead}
-use Rattle.checking.proofs.Answers.{has-room, room-is}
+use Rattle.file_rules.specs.Verdict.{roomToRead}
+use Rattle.file_rules.proofs.Answers.{has-room, room-is}
 use Rattle.joined.specs.Joined.{joined, entriesOf}
 use Rattle.joined.specs.Verdict.{Whose, of-first, of-second, of-joint, partThen, jointTried, joinVerdict}
 use Rattle.joined.specs.Verdict.{JoinSays, first-broken, second-broken, order-broken, room-short, joins}

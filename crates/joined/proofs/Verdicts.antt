@@ -8,7 +8,7 @@ use borrow.Author.Tests.{le-leb, lt-leb}
 use Rattle.basics.proofs.BoolLaws.{by-true, by-false}
 use Rattle.refusal.specs.Table.{Side, accepts, refuses, of-chain, numbered}
 use Rattle.refusal.specs.declared.Line.{Line}
-use Rattle.checking.specs.Verdict.{roomToRead}
+use Rattle.file_rules.specs.Verdict.{roomToRead}
 use Rattle.chain.specs.Rows.{Rows}
 use Rattle.chain.specs.Rules.{checked}
 use Rattle.chain.proofs.Reading.{accepted-whole, accepted-count}

@@ -8,7 +8,7 @@ use Rattle.refusal.specs.declared.Line.{Line}
 use Rattle.chain.specs.Rows.{Rows}
 use Rattle.chain.specs.Rules.{checked}
 use Rattle.chain.specs.Sound.{Accepted, Says}
-use Rattle.checking.specs.Verdict.{roomToRead, HasRoom}
+use Rattle.file_rules.specs.Verdict.{roomToRead, HasRoom}
 use Rattle.joined.specs.Joined.{joined, entriesOf}
 
 -- whose answer it is: a part's, which is a refusal, or that of the joint chain

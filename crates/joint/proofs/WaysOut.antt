@@ -12,7 +12,7 @@ use Rattle.refusal.specs.declared.Refusal.{Refusal}
 use Rattle.chain.specs.Rows.{Rows, rows}
 use Rattle.from_rates.specs.FromRates.{fromRates}
 use Rattle.layout.specs.Buffers.{Buffers, chainIn}
-use Rattle.checking.specs.Verdict.{HasRoom}
+use Rattle.file_rules.specs.Verdict.{HasRoom}
 use Rattle.joined.specs.Joined.{jointRates, joined, entriesOf, JointChain}
 use Rattle.joined.specs.Verdict.{Whose, of-joint, joinVerdict, Joinable, JoinSays, first-broken, second-broken, order-broken, room-short, joins}
 use Rattle.joined.proofs.JoinedLaws.{joined-count, joined-accepted, joint-chain}

@@ -25,7 +25,7 @@ use Rattle.reach.specs.Answer.{oneClosed, answered, setOf}
 use Rattle.kernel.specs.Numbers.{plus, times, dividedBy}
 use Rattle.layout.specs.Forms.{formIn, orderIn}
 use Rattle.layout.specs.Bytes.{bitAt, shortRate, storedRate}
-use Rattle.checking.specs.Verdict.{fileChecked, rowChecked, rateChecked, marksChecked, markChecked}
+use Rattle.file_rules.specs.Verdict.{fileChecked, rowChecked, rateChecked, marksChecked, markChecked}
 use Rattle.solver.specs.Solve.{entries, setSize, weightsOf, sharesOf, countOf, solved}
 use Rattle.decimal.specs.Decimal.{decimalDigits, decimal, signed}
 use Rattle.lines.specs.Lines.{headerLine, stateLine, stateLines}

@@ -16,8 +16,8 @@ use Rattle.reach.specs.Answer.{answered, setOf}
 use Rattle.reach.proofs.AnswerLaws.{accepted-answer, answer-set}
 use Rattle.layout.specs.Bytes.{chainOf}
 use Rattle.layout.proofs.Fit.{rates-fit}
-use Rattle.checking.specs.Sound.{zerosRefused}
-use Rattle.checking.specs.Verdict.{fileChecked}
+use Rattle.file_rules.specs.Sound.{zerosRefused}
+use Rattle.file_rules.specs.Verdict.{fileChecked}
 use Rattle.solver.specs.Solve.{countOf, solved}
 use Rattle.solver.proofs.Demands.{balancing, accurate}
 use Rattle.solver.proofs.Ranges.{all-fit}

@@ -10,8 +10,8 @@ use lib.ListN.{length, take}
 use lib.Seq.{getD-take, length-take-le, take-all}
 use Rattle.refusal.specs.Table.{Side, Verdict, accepts, refuses}
 use Rattle.refusal.specs.declared.Line.{Line}
-use Rattle.checking.specs.Sound.{zerosRefused}
-use Rattle.checking.specs.Verdict.{fileChecked}
+use Rattle.file_rules.specs.Sound.{zerosRefused}
+use Rattle.file_rules.specs.Verdict.{fileChecked}
 use Rattle.storage.proofs.Passes.{file-small-both}
 use Rattle.storage.proofs.Prefix.{Agree, file-same}
 use Rattle.layout.specs.File.{enoughBytes}

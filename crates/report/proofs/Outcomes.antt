@@ -19,7 +19,7 @@ use Rattle.storage.specs.declared.Reading.the-variants as reading
 use Rattle.layout.specs.declared.Form.{Form}
 use Rattle.storage.specs.Reading.{Stored, told, Read}
 use Rattle.layout.specs.Buffers.{Buffers, mostStarts, mostEntries, chainIn}
-use Rattle.checking.specs.Sound.{zerosRefused}
+use Rattle.file_rules.specs.Sound.{zerosRefused}
 use Rattle.storage.proofs.RoundTrips.{file-refused}
 use Rattle.solver.specs.Lent.{Lent, Roomy}
 use Rattle.solver.specs.Solve.{weightsOf, sharesOf, solved, Solvable, Solved}

@@ -14,8 +14,8 @@ use Rattle.chain.specs.Meaning.{rateIn}
 use Rattle.reach.specs.Answer.{setOf}
 use Rattle.layout.specs.Bytes.{chainOf}
 use Rattle.layout.specs.File.{enoughBytes}
-use Rattle.checking.specs.Sound.{zerosRefused}
-use Rattle.checking.specs.Verdict.{fileChecked}
+use Rattle.file_rules.specs.Sound.{zerosRefused}
+use Rattle.file_rules.specs.Verdict.{fileChecked}
 use Rattle.solver.specs.Solve.{weightsOf, sharesOf, countOf, solved, Balancing, Accurate}
 use Rattle.lines.specs.Lines.{answerLines}
 use Rattle.refused.specs.Refused.{refusedLine}

@@ -5,7 +5,7 @@ use Prim.Native.Nat.{ℕ}
 use Rattle.refusal.specs.declared.Outcome.{Outcome}
 use Rattle.refusal.specs.Table.{Verdict, verdict}
 use Rattle.chain.specs.Rows.{Rows}
-use Rattle.checking.specs.Sound.{zerosRefused}
+use Rattle.file_rules.specs.Sound.{zerosRefused}
 use Rattle.storage.specs.declared.Reading.{Reading}
 use Rattle.layout.specs.declared.Form.{Form}
 use Rattle.layout.specs.Buffers.{Buffers}

@@ -12,7 +12,7 @@ use Rattle.layout.specs.declared.Form.the-variants.{One, Two}
 use Rattle.layout.specs.Forms.{formIn, orderIn}
 use Rattle.layout.specs.Bytes.{bitAt, shortRate, storedRate}
 use Rattle.layout.specs.Buffers.{Buffers, buffers}
-use Rattle.checking.specs.Verdict.{marksChecked, markChecked, rateChecked, rowChecked, fileChecked, roomToRead, readVerdict}
+use Rattle.file_rules.specs.Verdict.{marksChecked, markChecked, rateChecked, rowChecked, fileChecked, roomToRead, readVerdict}
 use Rattle.storage.specs.Writing.{writeVerdict}
 use Rattle.joined.specs.Verdict.{joinVerdict}
 use Rattle.joined.proofs.Cases.{two, zero-rate, two-ring, room-for-two-ring}

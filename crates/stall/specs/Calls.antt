@@ -8,8 +8,8 @@ use Rattle.chain.specs.Rows.{Rows}
 use Rattle.storage.specs.declared.Reading.{Reading}
 use Rattle.layout.specs.declared.Form.{Form}
 use Rattle.layout.specs.Buffers.{Buffers}
-use Rattle.checking.specs.Sound.{zerosRefused}
-use Rattle.checking.specs.Verdict.{readVerdict}
+use Rattle.file_rules.specs.Sound.{zerosRefused}
+use Rattle.file_rules.specs.Verdict.{readVerdict}
 use Rattle.storage.specs.Reading.{Read}
 use Rattle.storage.specs.Writing.{writeVerdict, Written}
 use Rattle.joined.specs.Verdict.{joinVerdict}

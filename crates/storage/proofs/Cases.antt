@@ -9,8 +9,8 @@ use Rattle.layout.specs.declared.Form.the-variants.{One, Two}
 use Rattle.layout.specs.Forms.{formIn, orderIn}
 use Rattle.layout.specs.Bytes.{bitAt, storedRate}
 use Rattle.layout.proofs.Cases.{two, twoBytes, nineLong}
-use Rattle.checking.specs.Sound.{zerosTaken, zerosRefused}
-use Rattle.checking.specs.Verdict.{bytesRefused, markChecked, rateChecked, marksChecked, rowChecked, fileChecked, roomToRead, readVerdict}
+use Rattle.file_rules.specs.Sound.{zerosTaken, zerosRefused}
+use Rattle.file_rules.specs.Verdict.{bytesRefused, markChecked, rateChecked, marksChecked, rowChecked, fileChecked, roomToRead, readVerdict}
 use Rattle.storage.specs.Writing.{writeVerdict}
 
 -- 5: a place short, and a byte short

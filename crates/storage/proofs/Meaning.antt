@@ -19,14 +19,14 @@ use Rattle.layout.specs.declared.Form.{Form}
 use Rattle.layout.specs.declared.Form.the-variants.{One, Two}
 use Rattle.layout.specs.Forms.{short, width}
 use Rattle.layout.specs.Bytes.{mapBytes, storedCount, rateAt, ratesAt, widths, columnsIn, formOf, orderOf, chainOf}
-use Rattle.checking.specs.Sound.{zerosRefused, mapAt, mapEnd, ratesBegin, rowColumns, rowMarked, rateCount, SoundMap, SoundMark, SoundMarks, SoundRate, SoundRateAt, SoundTo}
-use Rattle.checking.specs.Sound.{FileSays, order-absent, order-broken, map-cut, bit-broken, marks-cut, mark-loose, rates-cut, rate-zero, mark-wrong, left-over, all-sound}
-use Rattle.checking.specs.Verdict.{bytesRefused, badBit, firstBadBit, looseBit, firstLooseBit, marksChecked, same, ratesChecked, rowChecked, rowsChecked, fileChecked}
-use Rattle.checking.specs.Verdict.{roomToRead, readVerdict, ReadSays, bytes-broken, room-short, all-read}
-use Rattle.checking.proofs.Checks.{good-bit, not-bad, tied-bit, not-loose, same-so, not-same, zero-passed, rate-cut, rate-marked, rate-whole, rate-none, SoundHere, RatesAre, each-more}
-use Rattle.checking.proofs.Checks.{marks-absent, marks-loose, marks-tied, row-no-map, row-bad-bit, row-marks, row-rates}
-use Rattle.checking.proofs.Checks.{mark-wrong as wrong, marks-cut as second-cut}
-use Rattle.checking.proofs.Answers.{has-room, room-is}
+use Rattle.file_rules.specs.Sound.{zerosRefused, mapAt, mapEnd, ratesBegin, rowColumns, rowMarked, rateCount, SoundMap, SoundMark, SoundMarks, SoundRate, SoundRateAt, SoundTo}
+use Rattle.file_rules.specs.Sound.{FileSays, order-absent, order-broken, map-cut, bit-broken, marks-cut, mark-loose, rates-cut, rate-zero, mark-wrong, left-over, all-sound}
+use Rattle.file_rules.specs.Verdict.{bytesRefused, badBit, firstBadBit, looseBit, firstLooseBit, marksChecked, same, ratesChecked, rowChecked, rowsChecked, fileChecked}
+use Rattle.file_rules.specs.Verdict.{roomToRead, readVerdict, ReadSays, bytes-broken, room-short, all-read}
+use Rattle.file_rules.proofs.Checks.{good-bit, not-bad, tied-bit, not-loose, same-so, not-same, zero-passed, rate-cut, rate-marked, rate-whole, rate-none, SoundHere, RatesAre, each-more}
+use Rattle.file_rules.proofs.Checks.{marks-absent, marks-loose, marks-tied, row-no-map, row-bad-bit, row-marks, row-rates}
+use Rattle.file_rules.proofs.Checks.{mark-wrong as wrong, marks-cut as second-cut}
+use Rattle.file_rules.proofs.Answers.{has-room, room-is}
 use Rattle.storage.proofs.Passes.{columns-more}
 
 -- ---- the rates of a row: each is sound, or they are cut short, or one of them is 0, or the mark of one disagrees with its size

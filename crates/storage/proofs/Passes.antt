@@ -16,13 +16,13 @@ use Rattle.refusal.specs.Table.{accepts}
 use Rattle.layout.specs.declared.Form.{Form}
 use Rattle.layout.specs.declared.Form.the-variants.{One, Two}
 use Rattle.layout.specs.Bytes.{mapBytes, mapsOf, bitAt, marked, storedColumns, storedRates, rowEnd, storedCount, startsIn, columnsIn, ratesIn, formOf, orderOf, chainOf}
-use Rattle.checking.specs.Verdict.{firstBadBit, rowsChecked, fileChecked}
+use Rattle.file_rules.specs.Verdict.{firstBadBit, rowsChecked, fileChecked}
 use Rattle.layout.specs.File.{ratesSize, fileSize, mostBytes, longestFile}
 use Rattle.layout.specs.Buffers.{mostEntries}
 use Rattle.refusal.proofs.VerdictLaws.{accepted-if}
 use Rattle.layout.proofs.Rates.{length-rates-at, marked-size, size-append, size-high}
-use Rattle.checking.proofs.Checks.{RowIs, row-of-file}
-use Rattle.checking.proofs.Answers.{file-is}
+use Rattle.file_rules.proofs.Checks.{RowIs, row-of-file}
+use Rattle.file_rules.proofs.Answers.{file-is}
 use Rattle.storage.proofs.Holding.{held, holding-lt}
 use Rattle.storage.proofs.ReadWrite.{bit-column, row-marked}
 use Rattle.packing.proofs.Storing.{maps-le}

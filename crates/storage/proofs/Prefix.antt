@@ -18,8 +18,8 @@ use Rattle.layout.specs.Forms.{width}
 use Rattle.layout.specs.Bytes.{mapBytes, mapsOf, bitAt, marked, holding, storedColumns, storedCount, shortRate, storedRate, rateAt, formOf, orderOf}
 use Rattle.layout.specs.File.{enoughBytes}
 use Rattle.layout.proofs.Rates.{width-high, maps-low, maps-high, widths-high}
-use Rattle.checking.specs.Verdict.{badBit, firstBadBit, looseBit, firstLooseBit, bytesRefused, rateChecked, ratesChecked, marksChecked, rowChecked, rowsChecked, fileChecked}
-use Rattle.checking.proofs.Checks.{rate-is, marks-are, row-is}
+use Rattle.file_rules.specs.Verdict.{badBit, firstBadBit, looseBit, firstLooseBit, bytesRefused, rateChecked, ratesChecked, marksChecked, rowChecked, rowsChecked, fileChecked}
+use Rattle.file_rules.proofs.Checks.{rate-is, marks-are, row-is}
 use Rattle.storage.proofs.Holding.{held}
 use Rattle.storage.proofs.Passes.{row-few}
 

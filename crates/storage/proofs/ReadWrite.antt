@@ -16,13 +16,13 @@ use Rattle.refusal.specs.Table.{accepts}
 use Rattle.layout.specs.declared.Form.{Form}
 use Rattle.layout.specs.declared.Form.the-variants.{One, Two}
 use Rattle.layout.specs.Bytes.{mapBytes, mapsOf, bitAt, marked, storedColumns, storedRates, rowEnd, storedCount, startsIn, columnsIn, ratesIn, formOf, orderOf, chainOf}
-use Rattle.checking.specs.Verdict.{badBit, firstBadBit, looseBit, firstLooseBit, rowsChecked, fileChecked}
+use Rattle.file_rules.specs.Verdict.{badBit, firstBadBit, looseBit, firstLooseBit, rowsChecked, fileChecked}
 use Rattle.layout.specs.File.{has, mapOf, shortColumns, marksOf, bytesOf, rowBytes, rowsBytes, fileOf}
 use Rattle.refusal.proofs.VerdictLaws.{accepted-if}
 use Rattle.layout.proofs.Rates.{MarkedBy, length-rates-at, maps-low}
 use Rattle.layout.proofs.FirstByte.{first-in}
-use Rattle.checking.proofs.Checks.{good-bit, tied-bit, rates-marked, RowIs, row-of-file}
-use Rattle.checking.proofs.Answers.{file-is}
+use Rattle.file_rules.proofs.Checks.{good-bit, tied-bit, rates-marked, RowIs, row-of-file}
+use Rattle.file_rules.proofs.Answers.{file-is}
 use Rattle.storage.proofs.Holding.{has-in, has-out}
 use Rattle.storage.proofs.MapBits.{map-back, rates-back}
 use Rattle.storage.proofs.Marks.{has-marked}

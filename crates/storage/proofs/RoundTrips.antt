@@ -18,12 +18,12 @@ use Rattle.layout.specs.Buffers.{Buffers, mostStarts, mostEntries}
 use Rattle.storage.specs.declared.Reading.{Reading}
 use Rattle.storage.specs.declared.Reading.the-variants as reading
 use Rattle.storage.specs.Reading.{told, Read}
-use Rattle.checking.specs.Sound.{zerosRefused}
-use Rattle.checking.specs.Verdict.{fileChecked, readVerdict, HasRoom}
+use Rattle.file_rules.specs.Sound.{zerosRefused}
+use Rattle.file_rules.specs.Verdict.{fileChecked, readVerdict, HasRoom}
 use Rattle.storage.specs.Writing.{writeVerdict}
 use Rattle.storage.specs.RoundTrips.{WriteThenRead, ReadThenWrite}
-use Rattle.checking.proofs.Answers.{room-is, file-is}
-use Rattle.checking.proofs.Readings.{read-room}
+use Rattle.file_rules.proofs.Answers.{room-is, file-is}
+use Rattle.file_rules.proofs.Readings.{read-room}
 use Rattle.storage.proofs.Passes.{file-few}
 
 pub write-then-read : WriteThenRead

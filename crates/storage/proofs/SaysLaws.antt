@@ -4,15 +4,14 @@ use mathlib.Core.Bool.{Bool, true, false, true≢false}
 use mathlib.Core.List.{List, [], _∷_}
 use mathlib.Core.Path.{_≡_, refl, sym, ap, _∙_}
 use Prim.Native.Nat.{ℕ, zero, suc, _+_, _-_, _*_, _<_, _≤_}
-use native.Mathlib.Decide.{decLt, decLe}
+use native.Mathlib.Decide.{decLe}
 use native.Mathlib.Numerals.{add-one}
 use native.Mathlib.Omega.{arith}
 use borrow.Author.Tests.{le-leb, lt-leb, ltb-false}
 use lib.Dec.{ltb}
 use lib.ListN.{length, getD, take}
-use Rattle.basics.specs.First.{first}
-use Rattle.basics.proofs.BoolLaws.{not-so}
-use Rattle.basics.proofs.FirstLaws.{IsFirst, first-is}
+use Rattle.basics.proofs.BoolLaws.{not-so, is-so}
+use Rattle.basics.proofs.FirstLaws.{first-at, none-found}
 use Rattle.refusal.specs.Table.{Verdict, Side, accepts, refuses}
 use Rattle.refusal.specs.declared.Line.{Line}
 use Rattle.chain.specs.Rows.{Rows}
@@ -22,31 +21,18 @@ use Rattle.layout.specs.declared.Form.{Form}
 use Rattle.layout.specs.declared.Form.the-variants.{One, Two}
 use Rattle.layout.specs.Forms.{short, width}
 use Rattle.layout.specs.Bytes.{mapBytes, mapsOf, bitAt, marked, storedCount, rateAt, ratesAt, widths, formOf, orderOf}
-use Rattle.checking.specs.Sound.{mapAt, ratesBegin, rowColumns, rowMarked, rowRates, SoundMap, SoundMarks, SoundRow, SoundTo, FirstBadBit, RateMet}
-use Rattle.checking.specs.Sound.{FileSays, order-absent, order-broken, map-cut, bit-broken, marks-cut, mark-loose, rates-cut, rate-zero, mark-wrong, left-over, all-sound}
-use Rattle.checking.specs.Verdict.{bytesRefused, badBit, firstBadBit, looseBit, firstLooseBit, marksChecked, rateChecked, ratesChecked, rowChecked, fileChecked, roomToRead, readVerdict}
-use Rattle.checking.specs.Verdict.{ReadSays, bytes-broken, room-short, all-read}
-use Rattle.checking.proofs.Checks as checks
-use Rattle.checking.proofs.Checks.{good-bit, not-bad, tied-bit, not-loose, rate-cut, rate-whole, rate-marked, rate-none, SoundHere, allRates, marks-loose, marks-whole}
-use Rattle.checking.proofs.Checks.{row-no-map, row-bad-bit, row-marks, row-rates, row-whole, RowsLeft, rows-extra, rows-end, rows-stop, rows-more}
-use Rattle.checking.proofs.Answers.{has-room, room-is, file-empty, file-order, file-rows}
-use Rattle.checking.proofs.Readings.{read-no-room, read-room}
+use Rattle.file_rules.specs.Sound.{mapAt, ratesBegin, rowColumns, rowMarked, rowRates, SoundMap, SoundMarks, SoundRow, SoundTo, FirstBadBit, RateMet}
+use Rattle.file_rules.specs.Sound.{FileSays, order-absent, order-broken, map-cut, bit-broken, marks-cut, mark-loose, rates-cut, rate-zero, mark-wrong, left-over, all-sound}
+use Rattle.file_rules.specs.Verdict.{bytesRefused, badBit, firstBadBit, looseBit, firstLooseBit, marksChecked, rateChecked, ratesChecked, rowChecked, fileChecked, roomToRead, readVerdict}
+use Rattle.file_rules.specs.Verdict.{ReadSays, bytes-broken, room-short, all-read}
+use Rattle.file_rules.proofs.Checks as checks
+use Rattle.file_rules.proofs.Checks.{good-bit, not-bad, tied-bit, not-loose, rate-cut, rate-whole, rate-marked, rate-none, SoundHere, allRates, marks-loose, marks-whole}
+use Rattle.file_rules.proofs.Checks.{row-no-map, row-bad-bit, row-marks, row-rates, row-whole, RowsLeft, rows-extra, rows-end, rows-stop, rows-more}
+use Rattle.file_rules.proofs.Answers.{has-room, room-is, file-empty, file-order, file-rows}
+use Rattle.file_rules.proofs.Readings.{read-no-room, read-room}
 use Rattle.storage.specs.Writing.{writeVerdict, WriteSays}
 use Rattle.storage.specs.Writing as writing
 use Rattle.storage.proofs.Passes.{file-entries}
-use Rattle.storage.proofs.WriteRead.{none-found}
-
--- a search ends at the first number at which its test holds
-first-at : (test : ℕ → Bool) (e i : ℕ) → i < e → (test i ≡ false → ⊥) → ((j : ℕ) → j < i → test j ≡ false) → i ≡ first test 0 e
-first-at test e i l holds before = go (decLt i (first test 0 e)) (decLt (first test 0 e) i)
-  where
-    ends : IsFirst test 0 e (first test 0 e)
-    ends = first-is test 0 e (omega arith)
-
-    go : Dec (i < first test 0 e) → Dec (first test 0 e < i) → i ≡ first test 0 e
-    go (yes q) e = absurd (holds (ends .before i (omega arith) q))
-    go (no d) (yes q) = absurd (true≢false (sym (ends .found (omega arith)) ∙ before _ q))
-    go (no d) (no e) = omega arith
 
 module _ (zeros : Bool) (bytes : List ℕ) where
   -- ---- the rates of a row
@@ -90,8 +76,8 @@ module _ (zeros : Bool) (bytes : List ℕ) where
 
   first-bad : (row bit : ℕ) → FirstBadBit bytes row bit → bit ≡ firstBadBit bytes n row (mapAt bytes row)
   first-bad row bit f =
-      first-at (badBit bytes n row (mapAt bytes row)) (8 * mapBytes n) bit (f .inside) (λ h. f .broken (good-bit bytes n row (mapAt bytes row) bit h))
-      (λ j l. not-bad bytes n row (mapAt bytes row) j (f .before j l))
+      sym (first-at (badBit bytes n row (mapAt bytes row)) (8 * mapBytes n) bit (f .inside)
+      (is-so _ (λ h. f .broken (good-bit bytes n row (mapAt bytes row) bit h))) (λ j l. not-bad bytes n row (mapAt bytes row) j (f .before j l)))
 
   -- the same of the second map, in form 2
   all-tied : (map : ℕ) → ((j : ℕ) → j < 8 * mapBytes n → marked Two bytes n map j ≡ true → bitAt bytes map j ≡ true)
@@ -101,7 +87,8 @@ module _ (zeros : Bool) (bytes : List ℕ) where
   first-loose : (map bit : ℕ) → bit < 8 * mapBytes n → ((marked Two bytes n map bit ≡ true → bitAt bytes map bit ≡ true) → ⊥)
       → ((j : ℕ) → j < bit → marked Two bytes n map j ≡ true → bitAt bytes map j ≡ true) → bit ≡ firstLooseBit bytes n map
   first-loose map bit inside broken before =
-      first-at (looseBit bytes n map) (8 * mapBytes n) bit inside (λ h. broken (tied-bit bytes n map bit h)) (λ j l. not-loose bytes n map j (before j l))
+      sym (first-at (looseBit bytes n map) (8 * mapBytes n) bit inside (is-so _ (λ h. broken (tied-bit bytes n map bit h)))
+      (λ j l. not-loose bytes n map j (before j l)))
 
   -- ---- the second map of a row
 

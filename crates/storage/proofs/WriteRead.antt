@@ -13,19 +13,18 @@ use borrow.Author.Tests.{eq-eqb, ltb-true, ltb-false}
 use Rattle.chain.specs.Rows.{Rows, rows, begins, ends, columnAt}
 use Rattle.chain.specs.Sound.{Sound, SoundEntry}
 use Rattle.chain.proofs.SoundLaws.{order-of, start-within}
-use Rattle.basics.specs.First.{first}
-use Rattle.basics.proofs.FirstLaws.{first-is}
+use Rattle.basics.proofs.FirstLaws.{none-found}
 use Rattle.refusal.specs.Table.{accepts}
 use Rattle.layout.specs.declared.Form.{Form}
 use Rattle.layout.specs.declared.Form.the-variants.{One, Two}
 use Rattle.layout.specs.Bytes.{mapBytes, mapsOf, bitAt, marked, storedColumns, storedRates, ratesAt, widths, rowEnd, storedCount, startsIn, columnsIn, ratesIn, formOf, orderOf, chainOf}
 use Rattle.layout.proofs.Rates.{MarkedBy, marked-size}
 use Rattle.layout.proofs.FirstByte.{form-in, order-in}
-use Rattle.checking.specs.Sound.{zerosTaken}
-use Rattle.checking.specs.Verdict.{badBit, looseBit, firstLooseBit, rowChecked, rowsChecked, fileChecked}
+use Rattle.file_rules.specs.Sound.{zerosTaken}
+use Rattle.file_rules.specs.Verdict.{badBit, looseBit, firstLooseBit, rowChecked, rowsChecked, fileChecked}
 use Rattle.layout.specs.File.{has, mapOf, shortColumns, marksOf, bytesOf, ratesSize, rowBytes, rowsBytes, fileOf}
-use Rattle.checking.proofs.Checks.{not-bad, not-loose, SoundHere, marked-here, row-whole, row-is}
-use Rattle.checking.proofs.Answers.{file-rows}
+use Rattle.file_rules.proofs.Checks.{not-bad, not-loose, SoundHere, marked-here, row-whole, row-is}
+use Rattle.file_rules.proofs.Answers.{file-rows}
 use Rattle.packing.proofs.MapLaws.{has-there, length-map-of, length-bytes-of, length-marks, length-row}
 use Rattle.packing.proofs.Storing.{drop-part, starts-next, starts-two, starts-last}
 use Rattle.storage.proofs.Holding.{Rising, none, more, rising-high, holding-has}
@@ -39,14 +38,6 @@ pub record RowRead (form : Form) (bytes : List ℕ) (n row map : ℕ) (columns r
   pub rates-are : storedRates form bytes n map ≡ rates
   pub sound : rowChecked zerosTaken form bytes n row map ≡ accepts (rowEnd form bytes n map)
   pub rest : drop (rowEnd form bytes n map) bytes ≡ t
-
--- a search that finds nothing ends at its end
-pub none-found : (test : ℕ → Bool) (e : ℕ) → ((j : ℕ) → j < e → test j ≡ false) → ltb (first test 0 e) e ≡ false
-none-found test e h = go (ltb (first test 0 e) e) refl
-  where
-    go : (b : Bool) → ltb (first test 0 e) e ≡ b → ltb (first test 0 e) e ≡ false
-    go true b = let l = ltb-true _ _ b in absurd (true≢false (sym (first-is test 0 e (omega arith) .found l) ∙ h (first test 0 e) l))
-    go false b = b
 
 module _ (form : Form) (bytes : List ℕ) (n row map : ℕ) (columns rates t : List ℕ) (e : drop map bytes ≡ rowBytes form n columns rates ++ t) (order : 0 < n)
     (inside : map ≤ length bytes) (rise : Rising n 0 columns) (own : has row columns ≡ false) (many : length rates ≡ length columns)

@@ -17,11 +17,11 @@ use Rattle.layout.specs.declared.Form.{Form}
 use Rattle.layout.specs.Bytes.{mapsOf, marked, storedColumns, storedCount, storedRates, ratesIn, rowEnd, formOf, orderOf, chainOf}
 use Rattle.layout.proofs.Rates.{length-rates-at}
 use Rattle.chain.specs.Sound.{AllPositive}
-use Rattle.checking.specs.Sound.{zerosTaken, zerosRefused}
-use Rattle.checking.specs.Sound.{FileSays, order-absent, order-broken, map-cut, bit-broken, marks-cut, mark-loose, rates-cut, rate-zero, mark-wrong, left-over, all-sound}
-use Rattle.checking.specs.Verdict.{rowChecked, rowsChecked, fileChecked}
-use Rattle.checking.proofs.Checks.{SoundHere, row-whole, RowIs, row-of-file}
-use Rattle.checking.proofs.Answers.{file-rows, file-is}
+use Rattle.file_rules.specs.Sound.{zerosTaken, zerosRefused}
+use Rattle.file_rules.specs.Sound.{FileSays, order-absent, order-broken, map-cut, bit-broken, marks-cut, mark-loose, rates-cut, rate-zero, mark-wrong, left-over, all-sound}
+use Rattle.file_rules.specs.Verdict.{rowChecked, rowsChecked, fileChecked}
+use Rattle.file_rules.proofs.Checks.{SoundHere, row-whole, RowIs, row-of-file}
+use Rattle.file_rules.proofs.Answers.{file-rows, file-is}
 use Rattle.storage.proofs.Passes.{rates-more}
 use Rattle.storage.proofs.Meaning.{file-says}
 

@@ -12,7 +12,7 @@ use Rattle.storage.specs.declared.Reading.the-variants.{Chain, Refused}
 use Rattle.layout.specs.declared.Form.{Form}
 use Rattle.layout.specs.Bytes.{formOf, chainOf}
 use Rattle.layout.specs.File.{fileOf, fileSize, mostBytes}
-use Rattle.checking.specs.Verdict.{fileChecked, readVerdict, ReadSays}
+use Rattle.file_rules.specs.Verdict.{fileChecked, readVerdict, ReadSays}
 use Rattle.layout.specs.Buffers.{Buffers, chainIn}
 
 -- document 01's account of a reading: the order, the number of entries and the form, or the refusal

@@ -1,8 +1,8 @@
 // Stored chains: a chain read from bytes into lent slices, and written into lent bytes.
 ghost use mathlib.Core.Path.{_≡_};
 ghost use Rattle.chain.specs.Rows.{inRows};
-ghost use Rattle.checking.specs.Sound.{zerosTaken, zerosRefused};
-ghost use Rattle.checking.specs.Verdict.{readVerdict};
+ghost use Rattle.file_rules.specs.Sound.{zerosTaken, zerosRefused};
+ghost use Rattle.file_rules.specs.Verdict.{readVerdict};
 ghost use Rattle.layout.specs.Buffers.{inBuffers};
 ghost use Rattle.storage.specs.Reading.{told, Read};
 ghost use Rattle.storage.specs.Writing.{Written};

@@ -17,7 +17,7 @@ use Rattle.reach.specs.Answer.{oneClosed, answered, setOf}
 use Rattle.kernel.specs.Numbers.{plus, times, dividedBy}
 use Rattle.layout.specs.Forms as forms
 use Rattle.layout.specs.Bytes as bytes
-use Rattle.checking.specs.Verdict as reading
+use Rattle.file_rules.specs.Verdict as reading
 use Rattle.solver.specs.Lent.{enough}
 use Rattle.solver.specs.Solve.{entries, setSize, weightsOf, sharesOf, countOf, solved}
 use Rattle.basics.specs.Lists.{table}

@@ -11,8 +11,8 @@ use Rattle.refusal.specs.Table.{accepts, numbered}
 use Rattle.layout.specs.declared.Form.the-variants.{One, Two}
 use Rattle.layout.specs.Forms.{formIn, orderIn}
 use Rattle.layout.specs.Bytes.{bitAt, shortRate, storedRate, formOf, chainOf}
-use Rattle.checking.specs.Sound.{zerosRefused}
-use Rattle.checking.specs.Verdict.{fileChecked, rowChecked, marksChecked, rateChecked, markChecked}
+use Rattle.file_rules.specs.Sound.{zerosRefused}
+use Rattle.file_rules.specs.Verdict.{fileChecked, rowChecked, marksChecked, rateChecked, markChecked}
 use Rattle.refused.specs.Refused.{refusedLine}
 use Rattle.report.specs.Report.{reportOf}
 use Rattle.cleaning.specs.Cleaning.{cleanOf, CleanedFile, Rewrites}

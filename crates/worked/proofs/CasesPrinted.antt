@@ -26,8 +26,8 @@ use Rattle.reach.specs.Answer.{oneClosed, answered, setOf}
 use Rattle.layout.specs.declared.Form.the-variants.{One}
 use Rattle.layout.specs.Forms.{formIn, orderIn}
 use Rattle.layout.specs.Bytes.{bitAt, storedRate, formOf, chainOf}
-use Rattle.checking.specs.Sound.{zerosTaken, zerosRefused}
-use Rattle.checking.specs.Verdict.{fileChecked, rowChecked, marksChecked, rateChecked, markChecked}
+use Rattle.file_rules.specs.Sound.{zerosTaken, zerosRefused}
+use Rattle.file_rules.specs.Verdict.{fileChecked, rowChecked, marksChecked, rateChecked, markChecked}
 use Rattle.solver.specs.Solve.{setSize, weightsOf, sharesOf, countOf, solved}
 use Rattle.group_shares.specs.GroupShares.{groupSharesOf}
 use Rattle.lines.specs.Lines.{answerLines}

@@ -17,8 +17,8 @@ use Rattle.layout.specs.Forms.{formIn, orderIn}
 use Rattle.layout.specs.Bytes.{bitAt, shortRate, storedRate, formOf}
 use Rattle.layout.specs.File.{ratesSize, fileOf}
 use Rattle.layout.specs.Buffers.{Buffers, buffers, chainIn}
-use Rattle.checking.specs.Sound.{zerosTaken, zerosRefused}
-use Rattle.checking.specs.Verdict.{marksChecked, markChecked, rateChecked, rowChecked, fileChecked, roomToRead, readVerdict}
+use Rattle.file_rules.specs.Sound.{zerosTaken, zerosRefused}
+use Rattle.file_rules.specs.Verdict.{marksChecked, markChecked, rateChecked, rowChecked, fileChecked, roomToRead, readVerdict}
 use Rattle.storage.specs.declared.Reading.{Reading}
 use Rattle.storage.specs.declared.Reading.the-variants as reading
 use Rattle.storage.specs.Reading.{told, Stored, Read}

@@ -19,8 +19,8 @@ use Rattle.reach.specs.Answer.{setOf}
 use Rattle.layout.specs.declared.Form.{Form}
 use Rattle.layout.specs.declared.Form.the-variants.{One, Two}
 use Rattle.layout.specs.Bytes.{chainOf}
-use Rattle.checking.specs.Sound.{zerosRefused}
-use Rattle.checking.specs.Verdict.{readVerdict}
+use Rattle.file_rules.specs.Sound.{zerosRefused}
+use Rattle.file_rules.specs.Verdict.{readVerdict}
 use Rattle.layout.specs.File.{fileOf}
 use Rattle.solver.specs.Lent.{enough}
 use Rattle.solver.specs.Solve.{solved, weightsOf, sharesOf}

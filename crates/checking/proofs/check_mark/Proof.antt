@@ -1,8 +1,8 @@
 -- `check_mark`: 16 exactly where a mark disagrees with its rate's size. Assumes nothing.
 use mathlib.Core.Path.{refl, sym, ap, _∙_}
 use borrow.Author.Needs.{needs}
-use Rattle.checking.specs.Verdict.{same}
-use Rattle.checking.proofs.Checks.{mark-right, mark-wrong, same-so, not-same}
+use Rattle.file_rules.specs.Verdict.{same}
+use Rattle.file_rules.proofs.Checks.{mark-right, mark-wrong, same-so, not-same}
 use Rattle.checking.proofs.check_mark.Statement.{statement}
 use Rattle.checking.proofs.check_mark.Tie as tie
 

@@ -7,7 +7,7 @@ use native.Mathlib.Omega.{arith}
 use lib.Dec.{ltb}
 use borrow.Author.Needs.{needs}
 use borrow.Author.Tests.{ltb-true, ltb-false}
-use Rattle.checking.proofs.Checks.{rate-cut, rate-marked, rate-none}
+use Rattle.file_rules.proofs.Checks.{rate-cut, rate-marked, rate-none}
 use Rattle.checking.proofs.check_rate.Statement.{statement}
 use Rattle.checking.proofs.check_rate.Tie as tie
 

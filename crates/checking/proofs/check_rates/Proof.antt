@@ -6,7 +6,7 @@ use native.Mathlib.Omega.{arith}
 use borrow.Author.Needs.{needs}
 use Rattle.refusal.specs.Table.{verdict}
 use Rattle.layout.proofs.Rates.{maps-low}
-use Rattle.checking.proofs.Checks.{RatesLeft, rates-start, rates-end, rates-hit, rates-miss, rates-stop}
+use Rattle.file_rules.proofs.Checks.{RatesLeft, rates-start, rates-end, rates-hit, rates-miss, rates-stop}
 use Rattle.checking.proofs.check_rates.Statement.{statement}
 use Rattle.checking.proofs.check_rates.Tie as tie
 

@@ -3,7 +3,7 @@ use mathlib.Core.Path.{sym, ap, _∙_}
 use native.Mathlib.Omega.{arith}
 use borrow.Author.Needs.{needs}
 use Rattle.refusal.specs.Table.{verdict}
-use Rattle.checking.proofs.Checks.{row-no-map, row-bad-bit, row-marks, row-rates, marks-are}
+use Rattle.file_rules.proofs.Checks.{row-no-map, row-bad-bit, row-marks, row-rates, marks-are}
 use Rattle.checking.proofs.check_row.Statement.{statement}
 use Rattle.checking.proofs.check_row.Tie as tie
 

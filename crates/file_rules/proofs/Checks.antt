@@ -15,8 +15,8 @@ use Rattle.layout.specs.declared.Form.{Form}
 use Rattle.layout.specs.declared.Form.the-variants.{One, Two}
 use Rattle.layout.specs.Forms.{short, width}
 use Rattle.layout.specs.Bytes.{mapBytes, mapsOf, bitAt, marked, columnsFrom, storedColumns, storedCount, rateAt, ratesAt, widths, rowEnd}
-use Rattle.checking.specs.Sound.{zerosTaken, zerosRefused, SoundRate}
-use Rattle.checking.specs.Verdict.{bytesRefused, badBit, firstBadBit, looseBit, firstLooseBit, marksChecked, same, markChecked, rateChecked, ratesChecked, rowChecked, rowsChecked}
+use Rattle.file_rules.specs.Sound.{zerosTaken, zerosRefused, SoundRate}
+use Rattle.file_rules.specs.Verdict.{bytesRefused, badBit, firstBadBit, looseBit, firstLooseBit, marksChecked, same, markChecked, rateChecked, ratesChecked, rowChecked, rowsChecked}
 use Rattle.refusal.proofs.VerdictLaws.{accepted-if, accepted-unless, accepted-then}
 use Rattle.layout.proofs.Columns.{one-more, columns-end, columns-hit, columns-miss}
 use Rattle.layout.proofs.Rates.{MarkedBy, none, more, widths-low, maps-low}

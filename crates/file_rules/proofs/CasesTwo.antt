@@ -8,8 +8,8 @@ use Rattle.layout.specs.declared.Form.the-variants.{One, Two}
 use Rattle.layout.specs.Forms.{formIn, orderIn}
 use Rattle.layout.specs.Bytes.{bitAt, shortRate, storedRate}
 use Rattle.layout.proofs.Cases.{twoShort, atLimitBytes, nineShort}
-use Rattle.checking.specs.Sound.{zerosTaken, zerosRefused}
-use Rattle.checking.specs.Verdict.{bytesRefused, marksChecked, markChecked, rateChecked, rowChecked, fileChecked, roomToRead, readVerdict}
+use Rattle.file_rules.specs.Sound.{zerosTaken, zerosRefused}
+use Rattle.file_rules.specs.Verdict.{bytesRefused, marksChecked, markChecked, rateChecked, rowChecked, fileChecked, roomToRead, readVerdict}
 
 -- the verdict on a file where rates of 0 are refused
 abbrev pub met : List ℕ → Verdict ℕ

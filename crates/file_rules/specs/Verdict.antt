@@ -14,7 +14,7 @@ use Rattle.layout.specs.declared.Form.{Form}
 use Rattle.layout.specs.declared.Form.the-variants.{One, Two}
 use Rattle.layout.specs.Forms.{short, width}
 use Rattle.layout.specs.Bytes.{mapBytes, mapsOf, bitAt, marked, storedColumns, storedCount, rateAt, formOf, orderOf}
-use Rattle.checking.specs.Sound.{FileSays}
+use Rattle.file_rules.specs.Sound.{FileSays}
 
 -- a refusal of the bytes
 abbrev pub bytesRefused : {A : Type 0} → ℕ → ℕ → ℕ → Verdict A

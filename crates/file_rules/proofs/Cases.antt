@@ -8,8 +8,8 @@ use Rattle.layout.specs.declared.Form.the-variants.{One}
 use Rattle.layout.specs.Forms.{formIn, orderIn}
 use Rattle.layout.specs.Bytes.{bitAt, storedRate}
 use Rattle.layout.proofs.Cases.{nineBytes}
-use Rattle.checking.specs.Sound.{zerosTaken, zerosRefused}
-use Rattle.checking.specs.Verdict.{bytesRefused, marksChecked, markChecked, rateChecked, rowChecked, fileChecked, roomToRead, readVerdict}
+use Rattle.file_rules.specs.Sound.{zerosTaken, zerosRefused}
+use Rattle.file_rules.specs.Verdict.{bytesRefused, marksChecked, markChecked, rateChecked, rowChecked, fileChecked, roomToRead, readVerdict}
 
 -- ---- 8: "empty file", and the cut-off input "02 02 03"
 
