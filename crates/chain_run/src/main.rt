@@ -1,5 +1,6 @@
 // Reads chains from standard input, sound and broken, and prints for each what `check`, `check_answer`, `row_rates` and
 // `reach_masks` give. The expected lines come from tests/chain_model.py.
+#![tactic(auto)]
 ghost use Rattle.std.specs.Prelude.{◌≤◌};
 ghost use Rattle.io.specs.Counts.{IsPrefixLen};
 

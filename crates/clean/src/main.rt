@@ -1,5 +1,6 @@
 // The cleaning program: reads one stored chain from standard input and writes it without its entries of rate 0, or the one line of its refusal.
 // Where a read or a write fails it says so on standard error, and after a failed read it writes nothing: a program has no exit status.
+#![tactic(auto)]
 use libc::{STDERR_FILENO, STDOUT_FILENO};
 
 fn main() {

@@ -1,4 +1,5 @@
 // Reads files, each after its length in two bytes, low byte first, and writes for each what the cleaning program writes.
+#![tactic(auto)]
 use framed::Next;
 use libc::{STDIN_FILENO, STDOUT_FILENO};
 

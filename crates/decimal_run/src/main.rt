@@ -1,4 +1,5 @@
 // Reads numbers of eight bytes, low byte first, and prints for each a line: the number, and its low four bytes as a signed number.
+#![tactic(auto)]
 ghost use Rattle.std.specs.Prelude.{◌<◌};
 
 use libc::{STDIN_FILENO, STDOUT_FILENO};

@@ -1,5 +1,6 @@
 // The elimination of a set of a chain's states on lent slices: the rates between them loaded, the weights, the shares, each result given to its
 // state, and the work places cleared (internal).
+#![tactic(auto)]
 ghost use Rattle.std.specs.Prelude.{◌≡◌, ◌+◌, ◌-◌, ◌<◌, ◌≤◌, length, get_or};
 ghost use Rattle.markov.specs.Elimination.{weights};
 ghost use Rattle.chain.specs.Rows.{in_rows};

@@ -1,4 +1,5 @@
 // Files one after the other in one input, each after its length in two bytes, low byte first.
+#![tactic(auto)]
 ghost use Rattle.std.specs.Prelude.{◌≡◌, ◌+◌, ◌*◌};
 ghost use Rattle.framed.specs.Framed.{Fetched};
 

@@ -1,4 +1,5 @@
 // Shares by group (document 02, R-1): the public call that solves a chain and sums its shares by a customer's table.
+#![tactic(auto)]
 ghost use Rattle.std.specs.Prelude.{◌≡◌};
 ghost use Rattle.refusal.specs.Table.{verdict};
 ghost use Rattle.chain.specs.Rows.{in_rows};

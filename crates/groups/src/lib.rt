@@ -1,5 +1,6 @@
 // Group tables (document 02, R-1): the check of a table by 13, 12 and 11, and the shares of its groups. For callers who have checked the
 // chain: `group_shares` has the call for users.
+#![tactic(auto)]
 ghost use Rattle.std.specs.Prelude.{◌≡◌, ℕ, ◌+◌, ◌*◌, ◌≤◌, ◌<◌, suc, leb, eqb, length, get_or};
 ghost use Rattle.basics.specs.First.{first};
 ghost use Rattle.refusal.specs.Table.{verdict};

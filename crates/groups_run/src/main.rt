@@ -5,6 +5,7 @@
 // how many places of m, e, wm, we, sm, se, gm and ge are lent (no more than 4,100 of m and e, 70 of the next four, 20 of gm and ge);
 // then the starts, the columns, the rates and the table. Each lent place holds 7 before the call. Bytes that are no call print
 // `unreadable`. The input and the expected lines come from tests/groups_run.py.
+#![tactic(auto)]
 ghost use Rattle.std.specs.Prelude.{◌+◌, ◌≤◌, ◌<◌, length};
 ghost use Rattle.io.specs.Counts.{IsPrefixLen};
 

@@ -1,4 +1,5 @@
 // The input of a program that reads one file from standard input.
+#![tactic(auto)]
 ghost use Rattle.std.specs.Prelude.{◌≡◌, length};
 ghost use Rattle.libc.specs.Io.{Moved};
 ghost use Rattle.layout.specs.File.{enough_bytes};

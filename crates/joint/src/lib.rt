@@ -1,4 +1,5 @@
 // Two stations side by side: the joint chain of two chains in rows, put into lent slices.
+#![tactic(auto)]
 ghost use Rattle.std.specs.Prelude.{◌≡◌, ◌+◌, ◌*◌, ◌<◌, ◌≤◌};
 ghost use Rattle.chain.specs.Rows.{in_rows};
 ghost use Rattle.layout.specs.Buffers.{in_buffers};

@@ -6,6 +6,7 @@
 // many places at the end of the lent starts, columns and rates hold 5,000, as each did before: no start and no column is so high. Where a part
 // is refused, `first` or `second` stands in front; where its reading is refused already, the two are not joined and nothing follows. The
 // input and the expected lines come from tests/joint_run.py; `tools/chain join` reads the first of the two lines.
+#![tactic(auto)]
 ghost use Rattle.std.specs.Prelude.{◌*◌, ◌≤◌, length};
 
 use framed::Next;

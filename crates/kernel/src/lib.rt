@@ -1,5 +1,6 @@
 // Scaled numbers in lent slices, for a caller who knows that every number met is a scaled number: the operations, and a number loaded from
 // a place, put at a place or into an n x n matrix; and places cleared.
+#![tactic(auto)]
 ghost use Rattle.std.specs.Prelude.{◌≡◌, ◌+◌, ◌*◌, ◌<◌, ◌≤◌, pos, length, set, replicate};
 ghost use Rattle.scaled.specs.declared.Scaled.{Scaled};
 ghost use Rattle.kernel.specs.Numbers.{Fit, plus, times, divided_by};

@@ -1,4 +1,5 @@
 // The lines of an answer, put into a buffer that has room for them. Each call answers the place after its text.
+#![tactic(auto)]
 ghost use Rattle.std.specs.Prelude.{◌+◌, ◌≤◌, length};
 ghost use Rattle.decimal.specs.Decimal.{decimal, signed};
 ghost use Rattle.decimal.specs.Put.{Puts};

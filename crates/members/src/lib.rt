@@ -1,4 +1,5 @@
 // The states of a set, which is a 64-bit mask: listed, counted, and given the numbers that stand at their places (internal).
+#![tactic(auto)]
 ghost use Rattle.std.specs.Prelude.{◌≡◌, ◌+◌, ◌<◌, ◌≤◌, length};
 ghost use Rattle.scaled.specs.Scaled.{zero_number};
 ghost use Rattle.markov.specs.Closed.{size, spread};

@@ -2,6 +2,7 @@
 // near the one with even m.
 // Each operation has two forms: `wide_` for operands that are known to be scaled numbers, which answers (m, e) with e of any size, and
 // the public form that tests its operands and the range.
+#![tactic(auto)]
 ghost use Rattle.std.specs.Prelude.{◌≡◌, true, ◌≢◌, ◌+◌, ◌*◌, ◌/◌, ◌%◌, ◌≤◌, ◌<◌, T, ◌-ℤ◌};
 ghost use Rattle.std.specs.Int.Signed.{mag, non_neg};
 ghost use Rattle.scaled.specs.Scaled.{zero_number, is_zero, top_bit, exponent_in_range, ranged_number, is_scaled, is_number, sum_of, product_of, quotient_of, sum_with_product};

@@ -1,5 +1,6 @@
 // Prints the sum, product and quotient of 12 chosen pairs of operands, then of 400 generated pairs, and 100 converted rates. The file stdout
 // beside src/ is written by tests/scaled_model.py, which works with exact whole numbers and knows nothing of this code.
+#![tactic(auto)]
 use libc::STDOUT_FILENO;
 use scaled::{Rounded, Scaled};
 

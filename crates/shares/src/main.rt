@@ -1,5 +1,6 @@
 // The printing program: reads one stored chain from standard input and prints its weights and shares, or the one line of its refusal.
 // Where a read or a write fails it says so on standard error, and after a failed read it prints nothing: a program has no exit status.
+#![tactic(auto)]
 use libc::{STDERR_FILENO, STDOUT_FILENO};
 
 fn main() {

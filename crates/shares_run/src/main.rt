@@ -1,4 +1,5 @@
 // Reads files, each after its length in two bytes, low byte first, and prints for each what the printing program prints.
+#![tactic(auto)]
 use framed::Next;
 use libc::{STDIN_FILENO, STDOUT_FILENO};
 

@@ -1,4 +1,5 @@
 // The public call that solves a chain: what it refuses, the bound count, and the elimination on the needed places.
+#![tactic(auto)]
 ghost use Rattle.std.specs.Prelude.{◌≡◌, ◌≤◌};
 ghost use Rattle.chain.specs.Rows.{in_rows};
 ghost use Rattle.solver.specs.Lent.{lent, both_have, enough};

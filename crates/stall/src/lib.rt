@@ -1,5 +1,6 @@
 // The public calls, exported for C: a number is returned, and three places of a lent slice, four for `stall_join`, take the rest of the
 // answer. `capi/stall.h` declares them. No call asks anything of its lent slices: any lengths do.
+#![tactic(auto)]
 ghost use Rattle.chain.specs.Rows.{in_rows};
 ghost use Rattle.layout.specs.Buffers.{in_buffers};
 ghost use Rattle.solver.specs.Lent.{lent};

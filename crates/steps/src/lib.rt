@@ -1,5 +1,6 @@
 // Algorithm GTH on lent slices, for a caller who knows that every number met is a scaled number: the steps of the elimination of an
 // n x n matrix (internal).
+#![tactic(auto)]
 ghost use Rattle.std.specs.Prelude.{◌≡◌, ℕ, ◌+◌, ◌-◌, ◌<◌};
 ghost use Rattle.scaled.specs.declared.Scaled.{Scaled};
 ghost use Rattle.kernel.specs.Numbers.{Fit, divided_by};

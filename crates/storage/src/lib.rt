@@ -1,4 +1,5 @@
 // Stored chains: a chain read from bytes into lent slices, and written into lent bytes.
+#![tactic(auto)]
 ghost use Rattle.std.specs.Prelude.{◌≡◌};
 ghost use Rattle.chain.specs.Rows.{in_rows};
 ghost use Rattle.file_rules.specs.Sound.{zeros_taken, zeros_refused};

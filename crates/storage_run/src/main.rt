@@ -1,6 +1,7 @@
 // Reads files, each after its length in two bytes, low byte first, and prints a line on each: the order, the number of entries, the
 // form, and whether writing the chain in that form gives the same bytes again, or the refusal. A second line says the same where less
 // room is lent than many a chain needs.
+#![tactic(auto)]
 use framed::Next;
 use layout::Form;
 use libc::{STDIN_FILENO, STDOUT_FILENO};

@@ -1,4 +1,5 @@
 // Algorithm GTH on lent slices, for a caller who knows that every number met is a scaled number: the rows below a pivot updated (internal).
+#![tactic(auto)]
 ghost use Rattle.std.specs.Prelude.{◌≡◌, ℕ, ◌+◌, ◌<◌, ◌≤◌, true};
 ghost use Rattle.scaled.specs.declared.Scaled.{Scaled};
 ghost use Rattle.scaled.specs.Scaled.{is_zero};

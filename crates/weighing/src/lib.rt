@@ -1,5 +1,6 @@
 // Algorithm GTH on lent slices, for a caller who knows that every number met is a scaled number: the weights by back substitution, and the
 // shares (internal).
+#![tactic(auto)]
 ghost use Rattle.std.specs.Prelude.{◌≡◌, ℕ, ◌+◌, ◌-◌, ◌<◌, length};
 ghost use Rattle.scaled.specs.declared.Scaled.{Scaled};
 ghost use Rattle.markov.specs.Elimination.{weights};
