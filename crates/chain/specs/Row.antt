@@ -28,4 +28,4 @@ row_rates c row = take (row_part c row).1 (drop (row_part c row).0 c.rates)
 
 -- "the caller's own": where the number at a place of a lent slice of `u32` stands in memory, four bytes for each
 abbrev pub stands_at : Bor (List ℕ) → ℕ → ℕ × ℕ
-stands_at slice place = (slice.ptr.0, place * 4 + slice.ptr.1)
+stands_at slice place = (slice.ref_ptr.0, place * 4 + slice.ref_ptr.1)
