@@ -1,5 +1,6 @@
 // Chains in rows: the checks 1 to 4 and 14, and the look-up of a row and of a rate.
 #![tactic(auto)]
+
 ghost use Rattle.std.specs.Prelude.{◌≡◌, true, List, ℕ, ◌<◌, ◌≤◌, length};
 ghost use Rattle.basics.specs.First.{first};
 ghost use Rattle.refusal.specs.Table.{verdict};

@@ -4,7 +4,7 @@ ghost use Rattle.std.specs.Prelude.{◌≡◌, ◌+◌, ◌*◌};
 ghost use Rattle.framed.specs.Framed.{Fetched};
 
 // What comes next in the input.
-#[derive(Drop)]
+#[derive(Clone, Copy)]
 pub enum Next {
     // a file of so many bytes, which now stands at the beginning of the buffer
     File(usize),

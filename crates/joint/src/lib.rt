@@ -13,7 +13,7 @@ use refusal::{ChainReason, Outcome, Refusal};
 
 // What a joining gives: the number of entries of the joint chain that now stands in the lent slices, or a refusal of the first part, of the
 // second part or of the joint chain.
-#[derive(Drop)]
+#[derive(Clone, Copy)]
 pub enum Joining {
     Done(usize),
     First(Refusal),

@@ -1,11 +1,12 @@
 // The stored forms of a chain: what their single bits and rates are (internal).
 #![tactic(auto)]
+
 ghost use Rattle.std.specs.Prelude.{◌≡◌, ◌+◌, ◌*◌, ◌/◌, ◌<◌, ◌≤◌, length, get_or};
 ghost use Rattle.layout.specs.Forms.{lead, short, width, form_in, order_in};
 ghost use Rattle.layout.specs.Bytes.{map_bytes, maps_of, bit_at, marked, short_rate, stored_rate, rate_at};
 
 // The two stored forms: in the second, rates below 65,536 are marked and take two bytes.
-#[derive(Drop)]
+#[derive(Clone, Copy)]
 pub enum Form {
     One,
     Two,

@@ -13,7 +13,7 @@ use kernel::{load, place};
 use reach::test_bit;
 
 // The states of a set in state order, and the place of each state of the chain among them: 64 for one outside.
-#[derive(Drop)]
+#[derive(Clone, Copy)]
 pub struct States {
     pub count: usize,
     pub list: [usize; 64],

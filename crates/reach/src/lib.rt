@@ -16,7 +16,7 @@ ghost use Rattle.reach.specs.Answer.{one_closed, answered, set_of, AnswerSays};
 use refusal::{ChainReason, Outcome, Refusal};
 
 // One mask for each state, all 64 together: bit j of mask i stands if state i reaches state j.
-#[derive(Drop)]
+#[derive(Clone, Copy)]
 pub struct Masks {
     pub rows: [u64; 64],
 }
@@ -179,7 +179,7 @@ fn next_lowest(rows: &[u64], from: usize, n: usize) -> usize
 }
 
 // The verdict of 1 to 4, 14 and 6, and the closed set of a chain that has an answer: bit i stands if state i is in it.
-#[derive(Drop)]
+#[derive(Clone, Copy)]
 pub struct Answer {
     pub outcome: Outcome,
     pub set: u64,

@@ -3,7 +3,7 @@ ghost use Rattle.std.specs.Prelude.{◌≡◌};
 ghost use Rattle.refusal.specs.Table.{numbered, line, Listed};
 
 // Why a chain is turned away. The places are those of document 01's table.
-#[derive(Drop)]
+#[derive(Clone, Copy)]
 pub enum ChainReason {
     Order,
     Lengths,
@@ -26,7 +26,7 @@ pub enum ChainReason {
 }
 
 // Why stored bytes are turned away.
-#[derive(Drop)]
+#[derive(Clone, Copy)]
 pub enum BytesReason {
     Order,
     Room,
@@ -41,21 +41,21 @@ pub enum BytesReason {
 }
 
 // A refusal says whether the chain or the stored bytes were at fault, with that side's own reason inside.
-#[derive(Drop)]
+#[derive(Clone, Copy)]
 pub enum Refusal {
     Chain(ChainReason),
     Bytes(BytesReason),
 }
 
 // What a call gives, or its refusal.
-#[derive(Drop)]
+#[derive(Clone, Copy)]
 pub enum Outcome {
     Done(usize),
     Refused(Refusal),
 }
 
 // A refusal as document 01's table lists it.
-#[derive(Drop)]
+#[derive(Clone, Copy)]
 pub struct Line {
     pub number: u32,
     pub first: usize,

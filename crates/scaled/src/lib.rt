@@ -3,6 +3,7 @@
 // Each operation has two forms: `wide_` for operands that are known to be scaled numbers, which answers (m, e) with e of any size, and
 // the public form that tests its operands and the range.
 #![tactic(auto)]
+
 ghost use Rattle.std.specs.Prelude.{◌≡◌, true, ◌≢◌, ◌+◌, ◌*◌, ◌/◌, ◌%◌, ◌≤◌, ◌<◌, T, ◌-ℤ◌};
 ghost use Rattle.std.specs.Int.Signed.{mag, non_neg};
 ghost use Rattle.scaled.specs.Scaled.{zero_number, is_zero, top_bit, exponent_in_range, ranged_number, is_scaled, is_number, sum_of, product_of, quotient_of, sum_with_product};
@@ -11,14 +12,14 @@ ghost use Rattle.scaled.specs.Nearest.{RoundedToNearest};
 ghost use Rattle.scaled.specs.Units.{one, val, NoneExactly, one_number, Converts};
 
 // m * 2^e: Zero is (0, 0); any other scaled number has m from 2^31 on and e from -16384 to 16383.
-#[derive(Drop)]
+#[derive(Clone, Copy)]
 pub struct Scaled {
     pub m: u32,
     pub e: i32,
 }
 
 // A number, or none.
-#[derive(Drop)]
+#[derive(Clone, Copy)]
 pub enum Rounded {
     Number(Scaled),
     None,

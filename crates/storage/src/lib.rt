@@ -16,7 +16,7 @@ use refusal::{BytesReason, ChainReason, Outcome, Refusal};
 
 // What a reading gives: the order and the number of entries of the chain that now stands in the lent slices, and the form of its file;
 // or its refusal.
-#[derive(Drop)]
+#[derive(Clone, Copy)]
 pub enum Reading {
     Chain {
         order: usize,

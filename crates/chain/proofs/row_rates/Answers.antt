@@ -15,14 +15,12 @@ use Rattle.chain.proofs.row_rates.Goals as goal
 -- what a part holds and where it stands, from the part itself
 held : (slice : Bor (List ℕ)) {p q : Part} → p ≡ q
     → (take p.1 (drop p.0 slice.now) ≡ take q.1 (drop q.0 slice.now)) × (stands_at slice p.0 ≡ stands_at slice q.0)
-
 held slice e = (ap (λ (p : Part). take p.1 (drop p.0 slice.now)) e, ap (λ (p : Part). stands_at slice p.0) e)
 
 -- the rules of a chain that the check lets pass
 sound : (c : goal.Else1)
     → let a = c.args in
     Sound (in_rows a.n a.starts a.columns a.rates)
-
 sound c =
     let b = c in
     done_sound _ b.args.row _ b.check-answer.ensures.0 c.enum_told-1.given.1
