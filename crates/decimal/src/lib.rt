@@ -1,5 +1,6 @@
 // The decimal text of numbers, written straight into a lent buffer that has room for it. Each call answers the place after the text.
 #![tactic(auto)]
+
 ghost use Rattle.std.specs.Prelude.{◌+◌, ◌≤◌, ◌<◌, [], ◌∷◌, ◌≡◌, nat_abs, length};
 ghost use Rattle.decimal.specs.Decimal.{digit as byte_of, decimal, signed};
 ghost use Rattle.decimal.specs.Put.{Puts};
