@@ -1,5 +1,6 @@
 // The line of a refusal, and the parts that every line is put from. Each call answers the place after its text.
 #![tactic(auto)]
+
 ghost use Rattle.std.specs.Prelude.{◌+◌, ◌≤◌, ◌∷◌, length};
 ghost use Rattle.decimal.specs.Decimal.{decimal};
 ghost use Rattle.decimal.specs.Put.{Puts};
