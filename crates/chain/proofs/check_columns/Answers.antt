@@ -1,26 +1,14 @@
-use Prim.Native.Nat.{◌≤◌, ◌-◌, ◌+◌}
-use mathlib.Core.List.{[]}
-use mathlib.Core.Path.{◌≡◌, refl, ◌∙◌, sym}
+use mathlib.Core.Path.{refl, ◌∙◌, sym}
 use native.Mathlib.Omega.{arith}
 use borrow.Author.Rules.{rules}
 use borrow.Author.Tests.{lt-ltb, le-ltb}
-use Rattle.basics.specs.First.{first}
 use Rattle.basics.proofs.FirstLaws.{first_end, first_here, first_next}
-use Rattle.chain.specs.Rows.{rows}
-use Rattle.chain.specs.Rules.{row_bad, first_bad_row}
-use Rattle.chain.specs.Sound.{SoundStarts}
 use Rattle.chain.proofs.SoundLaws.{starts_true, start_within}
 use Rattle.chain.proofs.RulesLaws.{columns_bad, columns_sound}
 use Rattle.chain.proofs.check_columns.Goals as goal
 
 pub loop-row-init : goal.loop-row-init
 loop-row-init c = (search rules, starts_true _ c.requires.1, refl)
-
-pub overflow_cast-begin : goal.overflow_cast-begin
-overflow_cast-begin c = omega (arith, c.shared_slice_known-in-loop-row-1.given c.loop-row.row)
-
-pub overflow_cast-end : goal.overflow_cast-end
-overflow_cast-end c = omega (arith, c.shared_slice_known-in-loop-row-2-1.given (c.loop-row.row + 1))
 
 pub first_bad-place-requires : goal.first_bad-place-requires
 first_bad-place-requires c =

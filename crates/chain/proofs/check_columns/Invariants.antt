@@ -1,16 +1,10 @@
-use Prim.Native.Nat.{◌≤◌, ◌-◌, ◌+◌}
+use Prim.Native.Nat.{◌≤◌, ◌-◌}
 use mathlib.Core.List.{[]}
-use mathlib.Core.Path.{◌≡◌, refl, ◌∙◌, sym}
-use native.Mathlib.Omega.{arith}
-use borrow.Author.Rules.{rules}
-use borrow.Author.Tests.{lt-ltb, le-ltb}
+use mathlib.Core.Path.{◌≡◌}
 use Rattle.basics.specs.First.{first}
-use Rattle.basics.proofs.FirstLaws.{first_end, first_here, first_next}
 use Rattle.chain.specs.Rows.{rows}
 use Rattle.chain.specs.Rules.{row_bad, first_bad_row}
 use Rattle.chain.specs.Sound.{SoundStarts}
-use Rattle.chain.proofs.SoundLaws.{starts_true, start_within}
-use Rattle.chain.proofs.RulesLaws.{columns_bad, columns_sound}
 use Rattle.chain.proofs.check_columns.Given as goal
 
 abbrev pub invariant-loop-row : goal.invariant-loop-row

@@ -1,41 +1,30 @@
 use mathlib.Core.Path.{refl, ◌∙◌, sym}
-use borrow.Author.Rules.{rules}
-use borrow.Author.Tests.{not-true, not-false, eq-eqb, ne_eqb}
+use borrow.Author.Tests.{eq-eqb, ne_eqb}
 use Rattle.basics.proofs.BoolLaws.{by_true, by_false}
 use Rattle.chain.specs.Rules.{rules_checked}
-use Rattle.chain.proofs.RulesLaws.{order_held}
 use Rattle.chain.proofs.check_rules.Goals as goal
 
 pub returns-then-not-order_sound : goal.returns-then-not-order_sound
 unfolding rules_checked
-returns-then-not-order_sound c = by_false _ _ (sym c.order_sound.ensures ∙ not-true _ c.if-not-order_sound.true) refl
+returns-then-not-order_sound c = by_false _ _ (sym c.order_sound.ensures ∙ c.if-not-order_sound.true) refl
 
 pub returns-then-columns-rates : goal.returns-then-columns-rates
 unfolding rules_checked
 returns-then-columns-rates c =
-    by_true _ _ (sym c.order_sound.ensures ∙ not-false _ c.if-not-order_sound.false)
+    by_true _ _ (sym c.order_sound.ensures ∙ c.if-not-order_sound.false)
     (by_false _ _ (ne_eqb _ _ c.if-columns-rates.true) refl)
-
-pub starts_sound-requires : goal.starts_sound-requires
-starts_sound-requires c = order_held _ (sym c.order_sound.ensures ∙ not-false _ c.if-not-order_sound.false)
 
 pub returns-then-not-starts_sound : goal.returns-then-not-starts_sound
 unfolding rules_checked
 returns-then-not-starts_sound c =
-    by_true _ _ (sym c.order_sound.ensures ∙ not-false _ c.if-not-order_sound.false)
+    by_true _ _ (sym c.order_sound.ensures ∙ c.if-not-order_sound.false)
     (by_true _ _ (eq-eqb _ _ c.if-columns-rates.false)
-    (by_false _ _ (sym c.starts_sound.ensures ∙ not-true _ c.if-not-starts_sound.true) refl))
-
-pub check_columns-requires : goal.check_columns-requires
-check_columns-requires c = (
-  order_held _ (sym c.order_sound.ensures ∙ not-false _ c.if-not-order_sound.false),
-  sym c.starts_sound.ensures ∙ not-false _ c.if-not-starts_sound.false,
-)
+    (by_false _ _ (sym c.starts_sound.ensures ∙ c.if-not-starts_sound.true) refl))
 
 pub returns : goal.returns
 unfolding rules_checked
 returns c =
     by_true _ _
-    (sym c.order_sound.ensures ∙ not-false _ c.if-not-order_sound.false)
+    (sym c.order_sound.ensures ∙ c.if-not-order_sound.false)
     (by_true _ _ (eq-eqb _ _ c.if-columns-rates.false)
-    (by_true _ _ (sym c.starts_sound.ensures ∙ not-false _ c.if-not-starts_sound.false) (c.check_columns.ensures _)))
+    (by_true _ _ (sym c.starts_sound.ensures ∙ c.if-not-starts_sound.false) (c.check_columns.ensures _)))

@@ -1,19 +1,10 @@
 use native.Mathlib.Omega.{arith}
-use borrow.Author.Rules.{rules}
 use Rattle.chain.proofs.ZeroLaws.{zeros_place, zeros_found, zeros_none}
 use Rattle.chain.proofs.check_zeros.Goals as goal
 
-pub row_of-row-requires : goal.row_of-row-requires
-row_of-row-requires c = omega (arith, c.requires.starts_rule.count)
-
 pub offset_bounds-columns-place : goal.offset_bounds-columns-place
 offset_bounds-columns-place c =
-    let s = c.requires in
-    omega (
-      arith,
-      zeros_place _ s _ _ c.first_zero-place.ensures c.row_of-row.ensures (omega (arith, c.if-row-n.true)),
-      c.well-formed,
-    )
+    omega (arith, zeros_place _ c.requires _ _ c.first_zero-place.ensures c.row_of-row.ensures (omega (arith, c.if-row-n.true)))
 
 pub bounds-columns-place : goal.bounds-columns-place
 bounds-columns-place c =

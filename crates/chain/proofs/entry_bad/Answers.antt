@@ -1,6 +1,5 @@
 use mathlib.Core.Path.{◌∙◌, sym}
 use Rattle.chain.proofs.RulesLaws.{entry_high, entry_own, entry_begin, entry_later}
-use borrow.Author.Rules.{rules}
 use Rattle.chain.proofs.entry_bad.Goals as goal
 
 pub returns-then-n-column : goal.returns-then-n-column

@@ -1,9 +1,6 @@
-use Prim.Native.Nat.{◌≤◌, ◌-◌}
-use mathlib.Core.Path.{◌≡◌, refl, ◌∙◌, sym}
+use mathlib.Core.Path.{refl, ◌∙◌, sym}
 use borrow.Author.Rules.{rules}
-use Rattle.basics.specs.First.{first}
 use Rattle.basics.proofs.FirstLaws.{first_end, first_here, first_next}
-use Rattle.chain.specs.Rules.{entry_bad}
 use Rattle.chain.proofs.first_bad.Goals as goal
 
 pub loop-place-init : goal.loop-place-init

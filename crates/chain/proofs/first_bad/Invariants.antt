@@ -1,8 +1,6 @@
 use Prim.Native.Nat.{◌≤◌, ◌-◌}
-use mathlib.Core.Path.{◌≡◌, refl, ◌∙◌, sym}
-use borrow.Author.Rules.{rules}
+use mathlib.Core.Path.{◌≡◌}
 use Rattle.basics.specs.First.{first}
-use Rattle.basics.proofs.FirstLaws.{first_end, first_here, first_next}
 use Rattle.chain.specs.Rules.{entry_bad}
 use Rattle.chain.proofs.first_bad.Given as goal
 

@@ -1,9 +1,6 @@
 use Prim.Native.Nat.{◌≤◌, ◌-◌}
-use mathlib.Core.Path.{◌≡◌, refl, ◌∙◌, sym}
-use borrow.Author.Rules.{rules}
-use borrow.Author.Tests.{lt-ltb, le-ltb}
+use mathlib.Core.Path.{◌≡◌}
 use Rattle.basics.specs.First.{first}
-use Rattle.basics.proofs.FirstLaws.{first_end, first_here, first_next}
 use Rattle.chain.specs.Rules.{falls_at}
 use Rattle.chain.proofs.first_fall.Given as goal
 

@@ -1,11 +1,7 @@
-use Prim.Native.Nat.{◌≤◌, ◌-◌}
-use mathlib.Core.Path.{◌≡◌, refl, ◌∙◌, sym}
+use mathlib.Core.Path.{refl, ◌∙◌, sym}
 use borrow.Author.Rules.{rules}
 use borrow.Author.Tests.{eq-eqb, ne_eqb}
-use lib.ListN.{length}
-use Rattle.basics.specs.First.{first}
 use Rattle.basics.proofs.FirstLaws.{first_end, first_here, first_next}
-use Rattle.chain.specs.Rules.{zero_at, first_zero}
 use Rattle.chain.proofs.first_zero.Goals as goal
 
 pub loop-place-init : goal.loop-place-init

@@ -1,10 +1,7 @@
-use Prim.Native.Nat.{◌≤◌, ◌-◌}
-use mathlib.Core.Path.{◌≡◌, refl, ◌∙◌, sym}
+use mathlib.Core.Path.{refl, ◌∙◌, sym}
 use borrow.Author.Rules.{rules}
 use borrow.Author.Tests.{lt-ltb, le-ltb}
-use Rattle.basics.specs.First.{first}
 use Rattle.basics.proofs.FirstLaws.{first_end, first_here, first_next}
-use Rattle.chain.specs.Rules.{ends_after, row_of}
 use Rattle.chain.proofs.row_of.Goals as goal
 
 pub loop-row-init : goal.loop-row-init

@@ -1,6 +1,5 @@
 use mathlib.Core.Path.{◌∙◌, sym}
 use Rattle.chain.proofs.RulesLaws.{starts_miscounted, starts_not_zero, starts_fall, starts_end}
-use borrow.Author.Rules.{rules}
 use Rattle.chain.proofs.starts_sound.Goals as goal
 
 pub returns-then-starts-n : goal.returns-then-starts-n
