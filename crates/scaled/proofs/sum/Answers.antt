@@ -1,24 +1,29 @@
 -- The operands are tested, then the range. Assumes nothing.
 use mathlib.Core.Path.{sym, ◌∙◌}
 use Rattle.scaled.specs.Scaled.{is_scaled, sum_of, rounded_sum}
-use Rattle.basics.proofs.BoolLaws.{passed, failed}
 use Rattle.scaled.proofs.Forms.{first_refused, second_refused}
 use Rattle.scaled.proofs.NearestLaws.{sum_promised}
-use borrow.Author.Rules.{rules}
 use Rattle.scaled.proofs.sum.Goals as goal
 
 pub returns-then-not-is_scaled : goal.returns-then-not-is_scaled
 unfolding is_scaled sum_of rounded_sum
-returns-then-not-is_scaled c = sum_promised _ _ (sym (first_refused 31 _ _ _ (failed c.is_scaled.ensures c.if-not-is_scaled.true)))
+returns-then-not-is_scaled c =
+    let p = sum_promised c.args.a c.args.b (sym (first_refused 31 _ _ _ (sym c.is_scaled.ensures ∙ c.if-not-is_scaled.true))) in
+    record { value = p.0; rounded_to_nearest = p.1.0; none_exactly = p.1.1 }
 
 pub returns-then-not-is_scaled-2 : goal.returns-then-not-is_scaled-2
 unfolding is_scaled sum_of rounded_sum
-returns-then-not-is_scaled-2 c = sum_promised _ _ (sym (second_refused 31 _ _ _ (failed c.is_scaled-2.ensures c.if-not-is_scaled-2.true)))
+returns-then-not-is_scaled-2 c =
+    let p = sum_promised c.args.a c.args.b (sym (second_refused 31 _ _ _ (sym c.is_scaled-2.ensures ∙ c.if-not-is_scaled-2.true))) in
+    record { value = p.0; rounded_to_nearest = p.1.0; none_exactly = p.1.1 }
 
 pub wide_sum-requires : goal.wide_sum-requires
 wide_sum-requires c =
-    let e = c in
-    (passed e.is_scaled.ensures e.if-not-is_scaled.false, passed c.is_scaled-2.ensures c.if-not-is_scaled-2.false)
+    let s = sym c.is_scaled.ensures ∙ c.if-not-is_scaled.false in
+    let t = sym c.is_scaled-2.ensures ∙ c.if-not-is_scaled-2.false in
+    (s, t)
 
 pub returns : goal.returns
-returns c = sum_promised _ _ (c.ranged.ensures ∙ c.wide_sum.ensures)
+returns c =
+    let p = sum_promised c.args.a c.args.b (c.ranged.ensures ∙ c.wide_sum.ensures) in
+    record { value = p.0; rounded_to_nearest = p.1.0; none_exactly = p.1.1 }

@@ -1,5 +1,6 @@
 -- The first mantissa with 32 zero bits put to it, divided by the second, has 32 or 33 bits; two bits of the rest go on with them. Assumes nothing.
 use mathlib.Core.Path.{◌≡◌, ap, ◌∙◌}
+use mathlib.Core.Logic.{◌≢◌}
 use mathlib.Core.Bool.{true}
 use Prim.Native.Nat.{ℕ, ◌+◌, ◌*◌, ◌/◌, ◌%◌, ◌≤◌, ◌<◌}
 use native.Mathlib.Nat.{mod-lt}
@@ -9,115 +10,93 @@ use mir.Syntax.{w32}
 use mir.Val.{to_z, of_z}
 use borrow.Author.Tests.{ne_eqb}
 use Rattle.scaled.specs.declared.Scaled.{Scaled}
-use Rattle.scaled.specs.Scaled.{is_scaled, is_scaled_at, dyadic, exact_quotient, nearest, quotient_of, rounded_quotient}
+use Rattle.scaled.specs.Scaled.{zero_number, is_scaled, dyadic, exact_quotient, nearest, quotient_of, rounded_quotient}
 use Rattle.scaled.proofs.Signed32.{Held, held, held_fits, held_small, stored, minus}
 use Rattle.scaled.proofs.Ties.{nearest_zero}
 use Rattle.scaled.proofs.Forms.{form, m_big, m_below, some_m, exponent_held, both_scaled}
 use Rattle.scaled.proofs.Mantissas.{quotient_low, quotient_high}
-use Rattle.scaled.proofs.Words.{Bits, bits_told, bits_small, nearest_ratio}
-use borrow.Author.Rules.{rules}
+use Rattle.scaled.proofs.Words.{bits_told, bits_small, nearest_ratio}
 use Rattle.scaled.proofs.wide_quotient.Goals as goal
 
-abbrev fst : goal.Start → Scaled
-
-fst s = s.args.a
-
-abbrev snd : goal.Start → Scaled
-
-snd s = s.args.b
-
-yes_1 : (s : goal.Start) → is_scaled_at 31 (fst s) ≡ true
-
+below : (a : Scaled) → is_scaled a ≡ true → a.m < 4294967296
 unfolding is_scaled
+below a s = m_below (form 31 a s)
 
-yes_1 s = s.requires.0
-
-yes_2 : (s : goal.Start) → is_scaled_at 31 (snd s) ≡ true
-
+big : (a : Scaled) → is_scaled a ≡ true → (a.m ≡ 0 → ⊥) → 2147483648 ≤ a.m
 unfolding is_scaled
+big a s n = m_big (form 31 a s) n
 
-yes_2 s = s.requires.1
+-- a divisor is not Zero
+some : (b : Scaled) → is_scaled b ≡ true → b ≢ zero_number → b.m ≡ 0 → ⊥
+unfolding is_scaled
+some b t n z = omega (arith, some_m 31 b t n)
 
-divisor : (s : goal.Start) → 2147483648 ≤ (snd s).m
+module _ (a b : Scaled) (s : is_scaled a ≡ true) (t : is_scaled b ≡ true) (n : b ≢ zero_number) where
+  divisor : 2147483648 ≤ b.m
+  divisor = big b t (some b t n)
 
-divisor s = m_big (form 31 _ (yes_2 s)) (λ z. omega (arith, some_m 31 _ (yes_2 s) s.requires.2))
+  -- the exact quotient, rounded
+  exact : nearest 31 (exact_quotient a b) ≡ quotient_of a b
+  unfolding is_scaled quotient_of rounded_quotient
+  exact = rw (ne_eqb b.m 0 (some b t n)) (both_scaled 31 _ _ _ s t)
 
--- the exact quotient, rounded
-exact : (s : goal.Start) → nearest 31 (exact_quotient (fst s) (snd s)) ≡ quotient_of (fst s) (snd s)
+  difference : Held (to_z w32 (of_z w32 a.e) -ℤ to_z w32 (of_z w32 b.e)) (a.e -ℤ b.e) 32769
+  unfolding is_scaled
+  difference = minus (exponent_held 31 _ s) (exponent_held 31 _ t)
 
-unfolding is_scaled quotient_of rounded_quotient
+  exponent : Held (to_z w32 (of_z w32 (to_z w32 (of_z w32 a.e) -ℤ to_z w32 (of_z w32 b.e))) -ℤ pos 34) (a.e -ℤ b.e -ℤ pos 34) 32805
+  exponent = minus (stored difference (omega arith)) (held (pos 34) {n = 35} (omega arith))
 
-exact s = rw (ne_eqb (snd s).m 0 (λ z. omega (arith, divisor s))) (both_scaled 31 _ _ _ (yes_1 s) (yes_2 s))
+  left : a.m * 4294967296 % b.m < b.m
+  left = mod-lt (a.m * 4294967296) (omega (arith, divisor))
 
-difference : (s : goal.Start) → Held (to_z w32 (of_z w32 (fst s).e) -ℤ to_z w32 (of_z w32 (snd s).e)) ((fst s).e -ℤ (snd s).e) 32769
+  -- where the first is not Zero, the quotient of the mantissas has 32 or 33 bits
+  low : (a.m ≡ 0 → ⊥) → 2147483648 ≤ a.m * 4294967296 / b.m
+  low some = quotient_low 31 a.m b.m (big a s some) (below a s) divisor (below b t)
 
-difference s = minus (exponent_held 31 _ (yes_1 s)) (exponent_held 31 _ (yes_2 s))
-
-exponent : (s : goal.Start) → Held (to_z w32 (of_z w32 (to_z w32 (of_z w32 (fst s).e) -ℤ to_z w32 (of_z w32 (snd s).e))) -ℤ pos 34) ((fst s).e -ℤ (snd s).e -ℤ pos 34) 32805
-
-exponent s = minus (stored (difference s) (omega arith)) (held (pos 34) {n = 35} (omega arith))
-
-abbrev quo : goal.Start → ℕ
-
-quo s = (fst s).m * 4294967296 / (snd s).m
-
-abbrev rest : goal.Start → ℕ
-
-rest s = (fst s).m * 4294967296 % (snd s).m
-
-left : (s : goal.Start) → rest s < (snd s).m
-
-left s = mod-lt ((fst s).m * 4294967296) (omega (arith, divisor s))
-
--- where the first is not Zero, the quotient of the mantissas has 32 or 33 bits
-module _ (s : goal.Start) (some : (fst s).m ≡ 0 → ⊥) where
-  dividend : 2147483648 ≤ (fst s).m
-  dividend = m_big (form 31 _ (yes_1 s)) some
-
-  low : 2147483648 ≤ quo s
-  low = quotient_low 31 (fst s).m (snd s).m dividend (m_below (form 31 _ (yes_1 s))) (divisor s) (m_below (form 31 _ (yes_2 s)))
-
-  high : quo s < 8589934592
-  high = quotient_high 31 (fst s).m (snd s).m dividend (m_below (form 31 _ (yes_1 s))) (divisor s) (m_below (form 31 _ (yes_2 s)))
-
-abbrev start : goal.After-last-bits → goal.Start
-
-start k = k
-
-told : (k : goal.After-last-bits) → Bits (rest (start k)) (snd (start k)).m k.last_bits.result
-
-told k = let s = start k in bits_told (rest s) (snd s).m k.last_bits.result k.last_bits.ensures
+  high : (a.m ≡ 0 → ⊥) → a.m * 4294967296 / b.m < 8589934592
+  high some = quotient_high 31 a.m b.m (big a s some) (below a s) divisor (below b t)
 
 pub returns-then-a-eq0 : goal.returns-then-a-eq0
-returns-then-a-eq0 c = nearest_zero 31 _ _ _ c.if-a-eq0.true ∙ exact c
+returns-then-a-eq0 c = nearest_zero 31 _ _ _ c.if-a-eq0.true ∙ exact _ _ c.requires.0 c.requires.1 c.requires.2
 
 pub overflow_mul-n-2 : goal.overflow_mul-n-2
-overflow_mul-n-2 c = let k = c in record { fits = omega (arith, high k k.if-a-eq0.false) }
+overflow_mul-n-2 c = record { fits = omega (arith, high _ _ c.requires.0 c.requires.1 c.requires.2 c.if-a-eq0.false) }
+
+pub nonzero_div-n : goal.nonzero_div-n
+nonzero_div-n c = omega (arith, divisor _ _ c.requires.0 c.requires.1 c.requires.2)
+
+pub nonzero_rem-n : goal.nonzero_rem-n
+nonzero_rem-n c = omega (arith, divisor _ _ c.requires.0 c.requires.1 c.requires.2)
 
 pub last_bits-requires : goal.last_bits-requires
-last_bits-requires c = (left c, omega arith)
+last_bits-requires c = (left _ _ c.requires.0 c.requires.1 c.requires.2, below _ c.requires.1)
 
 pub overflow_add-n : goal.overflow_add-n
-overflow_add-n c = let k = c in record { fits = omega (arith, high k k.if-a-eq0.false, bits_small (told c)) }
+overflow_add-n c = record {
+  fits = omega (arith, high _ _ c.requires.0 c.requires.1 c.requires.2 c.if-a-eq0.false, bits_small (bits_told _ _ _ c.last_bits.ensures));
+}
 
 pub overflow_sub-a : goal.overflow_sub-a
-overflow_sub-a c = held_fits (difference (start c)) (omega arith)
+overflow_sub-a c = held_fits (difference _ _ c.requires.0 c.requires.1 c.requires.2) (omega arith)
 
 pub overflow_sub-a-2 : goal.overflow_sub-a-2
-overflow_sub-a-2 c = held_fits (exponent (start c)) (omega arith)
+overflow_sub-a-2 c = held_fits (exponent _ _ c.requires.0 c.requires.1 c.requires.2) (omega arith)
 
 pub nearest-requires : goal.nearest-requires
-nearest-requires c =
-    let k = c in
-    let s = start k in
-    (omega (arith, low s k.if-a-eq0.false), omega (arith, held_small (stored (exponent s) (omega arith))))
+nearest-requires c = (
+  omega (arith, low _ _ c.requires.0 c.requires.1 c.requires.2 c.if-a-eq0.false),
+  omega (arith, held_small (stored (exponent _ _ c.requires.0 c.requires.1 c.requires.2) (omega arith))),
+)
 
 pub returns : goal.returns
 returns c =
-    let k = c in
-    let s = start k in
+    let a = c.args.a in
+    let b = c.args.b in
+    let s = c.requires.0 in
+    let t = c.requires.1 in
     c.nearest.ensures
-    ∙ ap (λ (z : ℤ). nearest 31 (dyadic (4 * quo s + k.last_bits.result) z)) (stored (exponent s) (omega arith)).is
-    ∙ nearest_ratio 31 (fst s).m (snd s).m k.last_bits.result ((fst s).e -ℤ (snd s).e) (dividend s k.if-a-eq0.false) (m_below (form 31 _ (yes_1 s)))
-    (divisor s) (m_below (form 31 _ (yes_2 s))) (told k)
-    ∙ exact s
+    ∙ ap (λ (z : ℤ). nearest 31 (dyadic (4 * (a.m * 4294967296 / b.m) + c.last_bits.result) z)) (stored (exponent _ _ s t c.requires.2) (omega arith)).is
+    ∙ nearest_ratio 31 a.m b.m c.last_bits.result (a.e -ℤ b.e) (big a s c.if-a-eq0.false) (below a s)
+    (divisor a b s t c.requires.2) (below b t) (bits_told _ _ _ c.last_bits.ensures)
+    ∙ exact a b s t c.requires.2
