@@ -5,10 +5,9 @@ use mathlib.Core.Path.{◌≡◌, sym, ap, subst, ◌∙◌}
 use native.Mathlib.Omega.{arith}
 use lib.ListN.{length, drop, length-append}
 use lib.Seq.{take_at, drop_at}
-use Rattle.io.specs.Counts.{IsPrefixLen}
 use Rattle.framed.specs.declared.Next.{Next}
 use Rattle.framed.specs.declared.Next.TheVariants.{File}
-use Rattle.framed.specs.Framed.{Fetched}
+use Rattle.framed.specs.Framed.{Fetched, IsPrefixLen}
 
 -- a part as long as the file, before the rest of the buffer
 pub whole : (n : ℕ) (part old : List ℕ) → length part ≡ n → Fetched (File n) old (part ++ drop n old)

@@ -1,7 +1,13 @@
 // Files one after the other in one input, each after its length in two bytes, low byte first.
 #![tactic(auto)]
-ghost use Rattle.std.specs.Prelude.{◌≡◌, ◌+◌, ◌*◌};
+
+ghost use Rattle.std.specs.Prelude.{◌≡◌, ◌+◌, ◌*◌, ◌<◌, IfOk, length, take};
+ghost use Rattle.std.specs.Io.{ReadsAtMost};
+ghost use Rattle.std.specs.Io.KnownBytes.{Consumes, IsAtEnd};
 ghost use Rattle.framed.specs.Framed.{Fetched};
+
+use std::io;
+use std::io::Read;
 
 // What comes next in the input.
 #[derive(Clone, Copy)]
@@ -14,6 +20,23 @@ pub enum Next {
     End,
 }
 
+// Reads until buf is full or the input ends, and answers how many bytes it put at the start of buf.
+pub fn read_full<R: Read>(from: &mut R, buf: &mut [u8]) -> io::Result<usize>
+    ensures in_bounds { ReadsAtMost result buf.new }
+    ensures bytes { IfOk result (λ n. Consumes (R.remaining from.old) (R.remaining from.new) (take n buf.new)) }
+    ensures end { IfOk result (λ n. n < length buf.new → IsAtEnd (R.remaining from.new)) }
+{
+    let mut done = 0;
+    while done < buf.len() {
+        let more = from.read(&mut buf[done..])?;
+        if more == 0 {
+            break;
+        }
+        done += more;
+    }
+    Ok(done)
+}
+
 // The length that two bytes give.
 fn length_of(low: u8, high: u8) -> usize
     ensures { result ≡ low + 256 * high }
@@ -22,23 +45,23 @@ fn length_of(low: u8, high: u8) -> usize
 }
 
 // Reads the next file into the buffer.
-pub fn fetch(fd: i32, buffer: &mut [u8]) -> Next
-    ensures { Fetched result buffer.old buffer.new }
+pub fn fetch<R: Read>(from: &mut R, buffer: &mut [u8]) -> io::Result<Next>
+    ensures { IfOk result (λ next. Fetched next buffer.old buffer.new) }
 {
     let mut head = [0u8; 2];
-    let got = io::read_full(fd, &mut head);
+    let got = read_full(from, &mut head)?;
     if got == 0 {
-        return Next::End;
+        return Ok(Next::End);
     }
     if got < 2 {
-        return Next::Cut;
+        return Ok(Next::Cut);
     }
     let n = length_of(head[0], head[1]);
     if buffer.len() < n {
-        return Next::Cut;
+        return Ok(Next::Cut);
     }
-    if io::read_full(fd, &mut buffer[..n]) < n {
-        return Next::Cut;
+    if read_full(from, &mut buffer[..n])? < n {
+        return Ok(Next::Cut);
     }
-    Next::File(n)
+    Ok(Next::File(n))
 }
