@@ -15,10 +15,10 @@ use Rattle.layout.specs.Forms.{lead, form_in, order_in}
 use Rattle.layout.specs.Bytes.{form_of}
 
 module _ (n : ℕ) (some : 0 < n) (few : n ≤ 64) where
-  pub form_in : (form : Form) → form_in (lead form + n) ≡ form
+  pub form_in_lem : (form : Form) → form_in (lead form + n) ≡ form
   unfolding form_in
-  form_in One = rw (le-ltb 128 (0 + n) (omega arith))
-  form_in Two = rw (lt-ltb 128 (128 + n) (omega arith))
+  form_in_lem One = rw (le-ltb 128 (0 + n) (omega arith))
+  form_in_lem Two = rw (lt-ltb 128 (128 + n) (omega arith))
 
   pub order_in_lem : (form : Form) → order_in (lead form + n) ≡ n
   unfolding order_in form_in
