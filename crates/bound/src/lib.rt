@@ -1,5 +1,6 @@
 // The bound count of an order, from its formula (request R-2). Internal: it asks for an order of at most 64.
 #![tactic(auto)]
+
 ghost use Rattle.std.specs.Prelude.{◌≡◌, ◌≤◌};
 ghost use Rattle.markov.specs.Count.{bound_count};
 

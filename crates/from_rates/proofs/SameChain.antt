@@ -135,8 +135,8 @@ module _ {c : Rows} (t : Accepted c) (x : ℕ) (l : x < c.order) where
         | no d ↦ omega (arith, b.within)
       ]
 
-  columns_of : columns_of c.order (rate_in c) x ≡ take (ends c x - begins c x) (drop (begins c x) c.columns)
-  columns_of = rw full at (below c.order).columns_are
+  columns_of_lem : columns_of c.order (rate_in c) x ≡ take (ends c x - begins c x) (drop (begins c x) c.columns)
+  columns_of_lem = rw full at (below c.order).columns_are
 
   rates_of_lem : rates_of c.order (rate_in c) x ≡ take (ends c x - begins c x) (drop (begins c x) c.rates)
   rates_of_lem = rw full at (below c.order).rates_are
@@ -159,7 +159,7 @@ from_same {c} t = rw (starts, columns, rates)
     rule = t.sound.starts_rule
 
     in_turn : (x : ℕ) → x ≤ c.order → together x (columns_of c.order (rate_in c)) ≡ take (begins c x) c.columns
-    in_turn = rows_together rule c.columns (columns_of c.order (rate_in c)) (columns_of t)
+    in_turn = rows_together rule c.columns (columns_of c.order (rate_in c)) (columns_of_lem t)
 
     columns : together c.order (columns_of c.order (rate_in c)) ≡ c.columns
     columns = in_turn c.order (omega arith) ∙ rw rule.last (take-length c.columns)
