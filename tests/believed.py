@@ -13,9 +13,9 @@ from fnmatch import fnmatch
 
 from rattle_files import ROOT, all_files, has, module_file, words
 
-CALL = re.compile(r'^pub (?:extern "C" )?fn (\w+)(.*?)^\{', re.MULTILINE | re.DOTALL)
+CALL = re.compile(r'^pub (?:unsafe )?(?:extern "C" )?fn (\w+)(.*?)^\{', re.MULTILINE | re.DOTALL)
 TYPE_OF_CODE = re.compile(r"^pub (?:struct|enum) (\w+)", re.MULTILINE)
-DECLARED = re.compile(r"Rattle·(\w+?)(?:·specs)?\.specs\.declared\.(\w+)")
+DECLARED = re.compile(r"Rattle\.(\w+)\.specs\.declared\.(\w+)")
 NAME = r"[^\s(){}\[\]:;,.=]+"
 BINDER = re.compile(rf"[({{]({NAME}(?: {NAME})*) : ")
 BOUND = (BINDER, re.compile(rf"λ ((?:{NAME} )*{NAME})\."), re.compile(rf"let ({NAME}) ="))

@@ -15,7 +15,7 @@ OLD_LINES = "states 2 bound 0\n0 2147483648 -31 2147483648 -31\n1 0 0 0 0\n"
 NEW_LINES = "states 2 bound 0\n0 0 0 0 0\n1 2147483648 -31 2147483648 -31\n"
 PROVING = "proving and building the printing program"
 OLDER = f"{PROVING}, which is older than its sources; this can take some minutes\n"
-TOLD_LINES = "shares proved (1 s)\n"
+TOLD_LINES = "proving shares\n"
 
 
 class Copy:
@@ -28,7 +28,7 @@ class Copy:
         for name in ("shares", "report", "other"):
             (self.root / "crates" / name / "src").mkdir(parents=True)
             (self.root / "crates" / name / "src" / "lib.rt").write_text("")
-        (self.root / "crates.txt").write_text("# NAME: the crates that it uses itself\nreport:\nother:\nshares: report io\n")
+        (self.root / "crates.txt").write_text("# NAME: the crates that it uses itself\nreport:\nother:\nshares: report\n")
         self.program, self.text = self.root / "target" / "bin" / "shares", self.root / "two.txt"
         self.program.parent.mkdir(parents=True)
         self.text.write_text("a -> b 1\nb -> a 1\n")
@@ -38,7 +38,7 @@ class Copy:
         self.path = {"PATH": f"{self.root}/bin:{os.environ['PATH']}"}
         self.rt = self.root / "bin" / "rt"
         self.rt.parent.mkdir()
-        self.rt.write_text(f"#!/bin/sh\n[ \"$*\" = 'check shares' ] || exit 2\n{rt}\n")
+        self.rt.write_text(f"#!/bin/sh\n[ \"$*\" = run ] && [ $PWD -ef '{self.root}/crates/shares' ] || exit 2\n{rt}\n")
         self.rt.chmod(0o755)
 
     def command(self, *words):
@@ -52,13 +52,15 @@ class Copy:
         return ran(*self.command(*words), env={**os.environ, **self.path})
 
 
-BUILDS = """sed 's/old/new/' target/bin/shares >made && cat made >target/bin/shares && rm made
-echo 'rt: report proved (unchanged since it was last proved)'
-echo 'rt: shares proved (1 s)'
-echo 'rt: ok, 2 crates proved'"""
-FAILS = "echo 'rt: shares NOT PROVED'; exit 1"
-WAITS = f"for i in 1 2 3 4 5 6 7 8 9; do [ -f heard ] || sleep 1; done; [ -f heard ] || echo 'rt: nobody heard of it'; {FAILS}"
-STANDS = "echo 'rt: shares proved (unchanged since it was last proved)'; echo 'rt: ok, 2 crates proved'"
+BUILDS = """mkdir -p out; sed 's/old/new/' ../../target/bin/shares >made && chmod 755 made && mv -f made out/shares
+exec >&2
+echo 'rt: chose --jobs 2 for shares'
+echo 'fn shares::main: proved'
+echo 'rt: running out/shares; to give it other input, run that file yourself'"""
+FAILS = "exec >&2; echo 'fn shares::main: NOT PROVED'; exit 1"
+WAITS = f"for i in 1 2 3 4 5 6 7 8 9; do [ -f ../../heard ] || sleep 1; done; [ -f ../../heard ] || echo 'rt: nobody heard of it' >&2; {FAILS}"
+STANDS = """mkdir -p out; cp ../../target/bin/shares out/shares; exec >&2
+echo 'rt: nothing has changed since the last proved build, by out/shares.stamp, so nothing is checked now'"""
 
 
 def builds(folder):
@@ -66,7 +68,7 @@ def builds(folder):
     for words in (("chain", "show"), ("solve",)):
         status, out, told = Copy(f"{folder}/{words[0]}", BUILDS).ran(*words)
         check(f"{words}: the new program's answer: {told}", status == 0 and "\na  0           left for good\nb  1.00000000 " in out)
-        check(f"{words}: what was proved is told", told.endswith("shares proved (1 s)\n"))
+        check(f"{words}: what was proved is told", told.endswith("proving shares\n"))
         status, out, told = Copy(f"{folder}/{words[0]}-failing", FAILS).ran(*words)
         check(f"{words}: a proof that fails shows nothing", (status, out) == (3, "") and "the printing program was not built" in told)
     copy = Copy(f"{folder}/named", FAILS)

@@ -8,7 +8,8 @@ ROOT = Path(__file__).resolve().parent.parent
 IMPORT = re.compile(r"(?:ghost )?use ([^\s{;]+?)(?:\.\{([^}]*)\})?(?: as ([^\s;]+))?;?")
 HEAD = re.compile(r" *(?:(?:unfoldable|abbrev) )?(?:pub )?([^\s(){}:;,.]+) :(?:\s|$)")
 TYPE = re.compile(r" *(?:pub )?(?:record|data) ([^\s({]+) ")
-MODULE = re.compile(r"Rattle·(\w+?)(?:·specs|·proofs)?\.(specs|proofs)\.([\w.]+)")
+MODULE = re.compile(r"Rattle\.(\w+)\.(specs|proofs)\.([\w.+]+)")
+ATTRIBUTE = re.compile(r"\bcrate::(specs|proofs)::((?:\w+::)*\w+)::(\w+)")
 
 
 def words(text):
@@ -25,8 +26,8 @@ def words(text):
 
 
 def has(found, name):
-    """Whether a name occurs among words; of an operator such as _+_ each part."""
-    return name in found or "_" in name and all(part in found for part in name.split("_") if part)
+    """Whether a name occurs among words; of an operator such as ◌+◌ each part."""
+    return name in found or "◌" in name and all(part in found for part in name.split("◌") if part)
 
 
 def module_file(module):
@@ -49,7 +50,13 @@ class File:
         self.split("--" if path.suffix == ".antt" else "//")
         self.words = {name: words("\n".join(text)) for name, text in self.text.items()}
         if path.suffix == ".rt":
-            self.words[None] |= set(re.findall(r"\w+", "\n".join(self.text[None])))
+            text, crate = "\n".join(self.text[None]), self.name.split("/")[1]
+            self.words[None] |= set(re.findall(r"\w+", text))
+            # lemmas and definitions that an attribute names, as crate::proofs::Sums::sum_same
+            for part, module, name in ATTRIBUTE.findall(text):
+                module = f"Rattle.{crate}.{part}.{module.replace('::', '.')}"
+                self.imports.setdefault(f"{module}.{name}", (module, name, 0))
+                self.words[None].add(f"{module}.{name}")
         self.used = set().union(*self.words.values())
 
     def split(self, comment):
@@ -88,7 +95,7 @@ class File:
     def exports(self, head):
         """Whether this declaration is there for its own sake: the proof of a function, or a worked case."""
         cases = self.path.stem.startswith("Cases") or self.path.stem.endswith("Cases")
-        return self.path.name == "Proof.antt" and "→ statement M" in head or cases
+        return self.path.name in ("Invariants.antt", "Answers.antt") and " : goal." in head or cases
 
     def add_import(self, number, module, names, alias):
         if names is None:
