@@ -1,6 +1,6 @@
 /* The stall calculator, for C: six calls, each proved (crates/stall in the repository).
  *
- * Link with target/staticlib/libstall.a, which `rt staticlib stall` writes for x86-64 Linux.
+ * Link with target/staticlib/libstall.a, which `tools/build stall` writes for x86-64 Linux.
  *
  * What a caller owes, for every call:
  *   - A slice is a pointer, then the number of its elements. The pointer leads to that many elements, which the caller may

@@ -1,5 +1,5 @@
 //! Finds libstall.a: in the folder named by the environment variable STALL_LIB_DIR, or in ../target/staticlib, where
-//! `rt staticlib stall` puts it.
+//! `tools/build stall` puts it.
 use std::env;
 use std::path::{Path, PathBuf};
 
@@ -13,7 +13,7 @@ fn main() {
     println!("cargo:rerun-if-changed={}", library.display());
     if !library.is_file() {
         panic!(
-            "{} is not there: run `rt staticlib stall` in the repository, or set STALL_LIB_DIR to the folder of libstall.a",
+            "{} is not there: run `tools/build stall` in the repository, or set STALL_LIB_DIR to the folder of libstall.a",
             library.display()
         );
     }
