@@ -1,10 +1,11 @@
 // Scaled numbers in lent slices, for a caller who knows that every number met is a scaled number: the operations, and a number loaded from
 // a place, put at a place or into an n x n matrix; and places cleared.
 #![tactic(auto)]
+
 ghost use Rattle.std.specs.Prelude.{◌≡◌, ◌+◌, ◌*◌, ◌<◌, ◌≤◌, pos, length, set, replicate};
 ghost use Rattle.scaled.specs.declared.Scaled.{Scaled};
 ghost use Rattle.kernel.specs.Numbers.{Fit, plus, times, divided_by};
-ghost use Rattle.kernel.specs.Slices.{slices, number_at, entry_at};
+ghost use Rattle.kernel.specs.Slices.{pair, slices, number_at, entry_at};
 ghost use Rattle.kernel.specs.Kernel.{Square, Put};
 ghost use Rattle.kernel.specs.Inner.{Placed};
 
@@ -43,7 +44,7 @@ pub fn plus_times_of(x: Scaled, a: Scaled, t: Scaled) -> Scaled
 // The number at a place of the slices.
 pub fn load(m: &[u32], e: &[i32], at: usize) -> Scaled
     requires { (at < length m.now) × (at < length e.now) }
-    ensures { result ≡ number_at (slices m.entry e.entry) at }
+    ensures { result ≡ number_at (pair m.now e.now) at }
 {
     Scaled { m: m[at], e: e[at] }
 }
@@ -68,7 +69,7 @@ fn cell(n: usize, i: usize, j: usize) -> usize
 pub fn entry(m: &[u32], e: &[i32], n: usize, i: usize, j: usize) -> Scaled
     requires square { Square n (slices m e) }
     requires i_lt_n { (i < n) × (j < n) }
-    ensures { result ≡ entry_at n (slices m.entry e.entry) i j }
+    ensures { result ≡ entry_at n (pair m.now e.now) i j }
 {
     let at = cell(n, i, j);
     load(m, e, at)
@@ -76,9 +77,9 @@ pub fn entry(m: &[u32], e: &[i32], n: usize, i: usize, j: usize) -> Scaled
 
 // Puts x in place of entry (i, j).
 pub fn put(m: &mut [u32], e: &mut [i32], n: usize, i: usize, j: usize, x: Scaled)
-    requires square { Square n (slices m e) }
+    requires square { Square n (pair m.old e.old) }
     requires i_lt_n { (i < n) × (j < n) }
-    ensures { Put n i j x (slices m.entry e.entry) (slices m.exit e.exit) }
+    ensures { Put n i j x (pair m.old e.old) (pair m.new e.new) }
 {
     let at = cell(n, i, j);
     store(m, e, at, x);
@@ -87,7 +88,7 @@ pub fn put(m: &mut [u32], e: &mut [i32], n: usize, i: usize, j: usize, x: Scaled
 // Puts x at a place.
 pub fn place(m: &mut [u32], e: &mut [i32], at: usize, x: Scaled)
     requires { (at < length m.old) × (at < length e.old) }
-    ensures { Placed at x (slices m.entry e.entry) (slices m.exit e.exit) }
+    ensures { Placed at x (pair m.old e.old) (pair m.new e.new) }
 {
     store(m, e, at, x);
 }
