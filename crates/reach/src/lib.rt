@@ -1,5 +1,6 @@
 // Which state of a chain reaches which: the masks, the closed set, and refusal 6.
 #![tactic(auto)]
+
 ghost use Rattle.std.specs.Prelude.{◌≡◌, ◌&&◌, ◌||◌, not, ℕ, ◌+◌, ◌-◌, ◌<◌, ◌≤◌, length, get_or, eqb, ltb};
 ghost use Rattle.basics.specs.Sum.{sum};
 ghost use Rattle.basics.specs.Below.{all};
