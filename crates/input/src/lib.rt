@@ -1,10 +1,13 @@
 // The input of a program that reads one file from standard input.
 #![tactic(auto)]
-ghost use Rattle.std.specs.Prelude.{◌≡◌, length};
-ghost use Rattle.libc.specs.Io.{Moved};
+
+ghost use Rattle.std.specs.Prelude.{◌≡◌, ◌<◌, IfOk, length, take};
+ghost use Rattle.std.specs.Io.{ReadsAtMost};
+ghost use Rattle.std.specs.Io.KnownBytes.{Consumes, IsAtEnd};
 ghost use Rattle.layout.specs.File.{enough_bytes};
 
-use libc::STDIN_FILENO;
+use std::io;
+use std::io::Read;
 
 // Room for what decides about an input: one byte more than the longest file.
 pub fn buffer() -> [u8; layout::ENOUGH_BYTES]
@@ -13,22 +16,11 @@ pub fn buffer() -> [u8; layout::ENOUGH_BYTES]
     [0; layout::ENOUGH_BYTES]
 }
 
-// Reads standard input until it ends or buf is full, and answers how many bytes it put at the start of buf, or -1 where a read fails.
-pub fn read_input(buf: &mut [u8]) -> isize
-    ensures { Moved (length buf.old) result }
+// Reads an input until it ends or buf is full, and answers how many bytes it put at the start of buf, or the error of a read that fails.
+pub fn read_input<R: Read>(from: &mut R, buf: &mut [u8]) -> io::Result<usize>
+    ensures in_bounds { ReadsAtMost result buf.new }
+    ensures bytes { IfOk result (λ n. Consumes (R.remaining from.old) (R.remaining from.new) (take n buf.new)) }
+    ensures end { IfOk result (λ n. n < length buf.new → IsAtEnd (R.remaining from.new)) }
 {
-    let size = buf.len();
-    let mut done = 0;
-    while done < size {
-        let got = libc::read(STDIN_FILENO, &mut buf[done..]);
-        if got < 0 {
-            return -1;
-        }
-        let more = io::count(got, &buf[done..]);
-        if more == 0 {
-            return done as isize;
-        }
-        done += more;
-    }
-    done as isize
+    framed::read_full(from, buf)
 }
