@@ -1,5 +1,6 @@
 // The first pass of a reading: every refusal of the bytes, and whether slices have room (internal).
 #![tactic(auto)]
+
 ghost use Rattle.std.specs.Prelude.{◌≡◌, ◌+◌, ◌*◌, ◌/◌, ◌<◌, ◌≤◌, length};
 ghost use Rattle.refusal.specs.Table.{verdict};
 ghost use Rattle.chain.specs.Rules.{order_sound};
