@@ -1,10 +1,11 @@
 // The states of a set, which is a 64-bit mask: listed, counted, and given the numbers that stand at their places (internal).
 #![tactic(auto)]
+
 ghost use Rattle.std.specs.Prelude.{◌≡◌, ◌+◌, ◌<◌, ◌≤◌, length};
 ghost use Rattle.scaled.specs.Scaled.{zero_number};
 ghost use Rattle.markov.specs.Closed.{size, spread};
 ghost use Rattle.reach.specs.Reach.{stands};
-ghost use Rattle.kernel.specs.Slices.{slices, number_at};
+ghost use Rattle.kernel.specs.Slices.{pair, number_at};
 ghost use Rattle.kernel.specs.Kernel.{Sized, Holds};
 ghost use Rattle.members.specs.Members.{Listed};
 ghost use Rattle.members.specs.Inner.{Given};
@@ -61,7 +62,7 @@ pub fn size_of(set: u64, n: usize) -> usize
 fn spread_at(set: u64, i: usize, left: usize, m: &mut [u32], e: &mut [i32]) -> usize
     requires i_bound { (i < 64) × (i < length m.old) × (i < length e.old) }
     requires left_value { left ≡ size (i + 1) (stands set) }
-    ensures { Given (stands set) i result (slices m.entry e.entry) (slices m.exit e.exit) }
+    ensures { Given (stands set) i result (pair m.old e.old) (pair m.new e.new) }
 {
     if test_bit(set, i) {
         let p = left - 1;
@@ -78,8 +79,8 @@ fn spread_at(set: u64, i: usize, left: usize, m: &mut [u32], e: &mut [i32]) -> u
 pub fn spread(set: u64, n: usize, r: usize, m: &mut [u32], e: &mut [i32])
     requires n_bound { n ≤ 64 }
     requires r_value { r ≡ size n (stands set) }
-    requires sized { Sized n (slices m e) }
-    ensures { Holds n (spread (stands set) zero_number (number_at (slices m.entry e.entry))) (slices m.exit e.exit) }
+    requires sized { Sized n (pair m.old e.old) }
+    ensures { Holds n (spread (stands set) zero_number (number_at (pair m.old e.old))) (pair m.new e.new) }
 {
     let mut left = r;
     for k in 0..n {
