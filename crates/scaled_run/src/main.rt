@@ -1,50 +1,18 @@
 // Prints the sum, product and quotient of 12 chosen pairs of operands, then of 400 generated pairs, and 100 converted rates. The file stdout
 // beside src/ is written by tests/scaled_model.py, which works with exact whole numbers and knows nothing of this code.
 #![tactic(auto)]
-use libc::STDOUT_FILENO;
+
 use scaled::{Rounded, Scaled};
+use std::io;
 
-fn blank() {
-    io::write_all(STDOUT_FILENO, b" ");
+fn print_scaled(rt: HostRuntime, x: Scaled) -> io::Result<()> {
+    print!(rt; "{} {}", x.m, x.e)
 }
 
-fn newline() {
-    io::write_all(STDOUT_FILENO, b"\n");
-}
-
-fn print_number(x: u32) {
-    io::print_decimal(STDOUT_FILENO, x as u64);
-}
-
-fn magnitude(e: i32) -> u64 {
-    if e < 0 {
-        let w = -1 - e;
-        w as u64 + 1
-    } else {
-        e as u64
-    }
-}
-
-fn print_signed(e: i32) {
-    if e < 0 {
-        io::write_all(STDOUT_FILENO, b"-");
-    }
-    io::print_decimal(STDOUT_FILENO, magnitude(e));
-}
-
-fn print_scaled(x: Scaled) {
-    print_number(x.m);
-    blank();
-    print_signed(x.e);
-}
-
-fn print_rounded(r: Rounded) {
-    blank();
+fn print_rounded(rt: HostRuntime, r: Rounded) -> io::Result<()> {
     match r {
-        Rounded::Number(x) => print_scaled(x),
-        Rounded::None => {
-            io::write_all(STDOUT_FILENO, b"none");
-        }
+        Rounded::Number(x) => print!(rt; " {} {}", x.m, x.e),
+        Rounded::None => print!(rt; " none"),
     }
 }
 
@@ -90,47 +58,46 @@ fn exponent(s: u32) -> i32 {
     0
 }
 
-fn print_operations(a: Scaled, b: Scaled) {
-    print_scaled(a);
-    blank();
-    print_scaled(b);
-    print_rounded(scaled::sum(a, b));
-    print_rounded(scaled::product(a, b));
-    print_rounded(scaled::quotient(a, b));
-    newline();
+fn print_operations(rt: HostRuntime, a: Scaled, b: Scaled) -> io::Result<()> {
+    print_scaled(rt, a)?;
+    print!(rt; " ")?;
+    print_scaled(rt, b)?;
+    print_rounded(rt, scaled::sum(a, b))?;
+    print_rounded(rt, scaled::product(a, b))?;
+    print_rounded(rt, scaled::quotient(a, b))?;
+    println!(rt)
 }
 
 // The pair (m1, e1), (m2, e2).
-fn print_pair(m1: u32, e1: i32, m2: u32, e2: i32) {
-    print_operations(Scaled { m: m1, e: e1 }, Scaled { m: m2, e: e2 });
+fn print_pair(rt: HostRuntime, m1: u32, e1: i32, m2: u32, e2: i32) -> io::Result<()> {
+    print_operations(rt, Scaled { m: m1, e: e1 }, Scaled { m: m2, e: e2 })
 }
 
 // Pairs that the generator hardly meets: ties, carries to the next binade, a quotient above the half, then the ends of the range.
-fn print_edges() {
-    print_pair(0x8000_0000, 0, 0x8000_0000, -32);
-    print_pair(0x8000_0001, 0, 0x8000_0000, -32);
-    print_pair(0xFFFF_FFFF, 0, 0x8000_0000, -32);
-    print_pair(0xFFFF_FFFE, -31, 0xC000_0001, -62);
-    print_pair(0x8000_8000, 0, 0x8000_8000, 0);
-    print_pair(0x8000_8000, 0, 0x8001_8000, 0);
-    print_pair(0x8000_0000, 0, 0xC000_0000, 0);
-    print_pair(0xFFFF_FFFF, 16383, 0x8000_0000, 16351);
-    print_pair(0xFFFF_FFFF, 16383, 0xFFFF_FFFF, 16350);
-    print_pair(0x8000_0001, 8176, 0xFFFF_FFFE, 8176);
-    print_pair(2455465984, -8208, 3756261376, -8208);
-    print_pair(2455465984, -8208, 3756261375, -8208);
+fn print_edges(rt: HostRuntime) -> io::Result<()> {
+    print_pair(rt, 0x8000_0000, 0, 0x8000_0000, -32)?;
+    print_pair(rt, 0x8000_0001, 0, 0x8000_0000, -32)?;
+    print_pair(rt, 0xFFFF_FFFF, 0, 0x8000_0000, -32)?;
+    print_pair(rt, 0xFFFF_FFFE, -31, 0xC000_0001, -62)?;
+    print_pair(rt, 0x8000_8000, 0, 0x8000_8000, 0)?;
+    print_pair(rt, 0x8000_8000, 0, 0x8001_8000, 0)?;
+    print_pair(rt, 0x8000_0000, 0, 0xC000_0000, 0)?;
+    print_pair(rt, 0xFFFF_FFFF, 16383, 0x8000_0000, 16351)?;
+    print_pair(rt, 0xFFFF_FFFF, 16383, 0xFFFF_FFFF, 16350)?;
+    print_pair(rt, 0x8000_0001, 8176, 0xFFFF_FFFE, 8176)?;
+    print_pair(rt, 2455465984, -8208, 3756261376, -8208)?;
+    print_pair(rt, 2455465984, -8208, 3756261375, -8208)
 }
 
-fn print_rate(s: u32) {
+fn print_rate(rt: HostRuntime, s: u32) -> io::Result<()> {
     let x = s >> s % 32;
-    print_number(x);
-    blank();
-    print_scaled(scaled::from_rate(x));
-    newline();
+    print!(rt; "{x} ")?;
+    print_scaled(rt, scaled::from_rate(x))?;
+    println!(rt)
 }
 
 // One pair of operands and a rate; answers the next number of the generator.
-fn turn(i: u32, s: u32) -> u32 {
+fn turn(rt: HostRuntime, i: u32, s: u32) -> io::Result<u32> {
     let s1 = next(s);
     let s2 = next(s1);
     let s3 = next(s2);
@@ -143,19 +110,18 @@ fn turn(i: u32, s: u32) -> u32 {
         m: mantissa(s3),
         e: exponent(s4),
     };
-    print_operations(a, b);
+    print_operations(rt, a, b)?;
     if i % 4 == 0 {
-        print_rate(s4);
+        print_rate(rt, s4)?;
     }
-    s4
+    Ok(s4)
 }
 
-fn main() {
-    print_edges();
+fn main(rt: HostRuntime) -> io::Result<()> {
+    print_edges(rt)?;
     let mut s = 20240131;
-    let mut i = 0;
-    while i < 400 {
-        s = turn(i, s);
-        i += 1;
+    for i in 0..400 {
+        s = turn(rt, i, s)?;
     }
+    Ok(())
 }
