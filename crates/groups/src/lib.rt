@@ -1,11 +1,12 @@
 // Group tables (document 02, R-1): the check of a table by 13, 12 and 11, and the shares of its groups. For callers who have checked the
 // chain: `group_shares` has the call for users.
 #![tactic(auto)]
+
 ghost use Rattle.std.specs.Prelude.{◌≡◌, ℕ, ◌+◌, ◌*◌, ◌≤◌, ◌<◌, suc, leb, eqb, length, get_or};
 ghost use Rattle.basics.specs.First.{first};
 ghost use Rattle.refusal.specs.Table.{verdict};
 ghost use Rattle.kernel.specs.Numbers.{Fit, plus};
-ghost use Rattle.kernel.specs.Slices.{slices, number_at};
+ghost use Rattle.kernel.specs.Slices.{pair, number_at};
 ghost use Rattle.kernel.specs.Kernel.{Holds};
 ghost use Rattle.kernel.specs.Inner.{Placed};
 ghost use Rattle.group_table.specs.Rules.{row_count, row_bad, first_bad_row, table_checked};
@@ -185,8 +186,8 @@ fn look_up(n: usize, table: &[u32], of: &mut [usize])
 // Adds a share to that of its group.
 fn add_share(gm: &mut [u32], ge: &mut [i32], g: usize, x: Scaled)
     requires g_in_bounds { (g < length gm.old) × (g < length ge.old) }
-    requires fit { Fit (plus (number_at (slices gm ge) g) x) }
-    ensures { Placed g (plus (number_at (slices gm.entry ge.entry) g) x) (slices gm.entry ge.entry) (slices gm.exit ge.exit) }
+    requires fit { Fit (plus (number_at (pair gm.old ge.old) g) x) }
+    ensures { Placed g (plus (number_at (pair gm.old ge.old) g) x) (pair gm.old ge.old) (pair gm.new ge.new) }
 {
     let sum = kernel::plus_of(kernel::load(gm, ge, g), x);
     kernel::place(gm, ge, g, sum);
@@ -194,8 +195,8 @@ fn add_share(gm: &mut [u32], ge: &mut [i32], g: usize, x: Scaled)
 
 // The shares of the sixteen groups: each the sum of the shares of its states, the state rising.
 pub fn sum_shares(n: usize, table: &[u32], sm: &[u32], se: &[i32], gm: &mut [u32], ge: &mut [i32])
-    requires { Summable n table.now (slices sm se) (slices gm ge) }
-    ensures { Holds 16 (group_share table.now n (number_at (slices sm.entry se.entry))) (slices gm.exit ge.exit) }
+    requires { Summable n table.now (pair sm.now se.now) (pair gm.old ge.old) }
+    ensures { Holds 16 (group_share table.now n (number_at (pair sm.now se.now))) (pair gm.new ge.new) }
 {
     let mut of = [0usize; 64];
     look_up(n, table, &mut of);
