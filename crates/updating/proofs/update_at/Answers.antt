@@ -7,7 +7,4 @@ pub plus_times_of-x-requires : goal.plus_times_of-x-requires
 plus_times_of-x-requires c = rw (c.entry-2.ensures, c.entry.ensures) c.requires.fit
 
 pub returns : goal.returns
-returns c =
-    let p = c in
-    let x = p in
-    put_value p.put.ensures (x.plus_times_of-x.ensures ∙ rw (x.entry-2.ensures, x.entry.ensures))
+returns c = put_value c.put.ensures (c.plus_times_of-x.ensures ∙ rw (c.entry-2.ensures, c.entry.ensures))
