@@ -1,9 +1,10 @@
 // The lines of an answer, put into a buffer that has room for them. Each call answers the place after its text.
 #![tactic(auto)]
+
 ghost use Rattle.std.specs.Prelude.{◌+◌, ◌≤◌, length};
 ghost use Rattle.decimal.specs.Decimal.{decimal, signed};
 ghost use Rattle.decimal.specs.Put.{Puts};
-ghost use Rattle.kernel.specs.Slices.{slices, number_at};
+ghost use Rattle.kernel.specs.Slices.{pair, number_at};
 ghost use Rattle.lines.specs.Inner.{fields};
 ghost use Rattle.lines.specs.Lines.{header_line, state_line, state_lines, answer_lines};
 
@@ -52,9 +53,9 @@ fn put_states(
     sm: &[u32],
     se: &[i32],
 ) -> usize
-    requires { (at + length (state_lines (number_at (slices wm we)) (number_at (slices sm se)) n 0) ≤ length out.old) ×
+    requires { (at + length (state_lines (number_at (pair wm.now we.now)) (number_at (pair sm.now se.now)) n 0) ≤ length out.old) ×
         (n ≤ length wm.now) × (n ≤ length we.now) × (n ≤ length sm.now) × (n ≤ length se.now) }
-    ensures { Puts out.old at (state_lines (number_at (slices wm.entry we.entry)) (number_at (slices sm.entry se.entry)) n 0) out.new result }
+    ensures { Puts out.old at (state_lines (number_at (pair wm.now we.now)) (number_at (pair sm.now se.now)) n 0) out.new result }
 {
     let mut p = at;
     let mut i = 0;
@@ -77,9 +78,9 @@ pub fn put_answer(
     sm: &[u32],
     se: &[i32],
 ) -> usize
-    requires { (length (answer_lines order bound (number_at (slices wm we)) (number_at (slices sm se))) ≤ length out.old) ×
+    requires { (length (answer_lines order bound (number_at (pair wm.now we.now)) (number_at (pair sm.now se.now))) ≤ length out.old) ×
         (order ≤ length wm.now) × (order ≤ length we.now) × (order ≤ length sm.now) × (order ≤ length se.now) }
-    ensures { Puts out.old 0 (answer_lines order bound (number_at (slices wm.entry we.entry)) (number_at (slices sm.entry se.entry))) out.new result }
+    ensures { Puts out.old 0 (answer_lines order bound (number_at (pair wm.now we.now)) (number_at (pair sm.now se.now))) out.new result }
 {
     let at = put_header(out, 0, order, bound);
     put_states(out, at, order, wm, we, sm, se)
