@@ -65,3 +65,21 @@ pub fn fetch<R: Read>(from: &mut R, buffer: &mut [u8]) -> io::Result<Next>
     }
     Ok(Next::File(n))
 }
+
+// Reads the files one after the other into the buffer and hands each to f, until the input ends, or a file is cut short or too long.
+// A proved loop has to end, so it takes a number of turns that no input uses up.
+pub fn each_file<R: Read, F: FnMut(&[u8]) -> io::Result<()>>(
+    from: &mut R,
+    buffer: &mut [u8],
+    mut f: F,
+) -> io::Result<()>
+    requires { F.IsAlwaysCallable f }
+{
+    for _ in 0..u64::MAX {
+        let Next::File(n) = fetch(from, buffer)? else {
+            break;
+        };
+        f(&buffer[..n])?;
+    }
+    Ok(())
+}
