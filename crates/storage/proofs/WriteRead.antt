@@ -19,7 +19,7 @@ use Rattle.layout.specs.declared.Form.{Form}
 use Rattle.layout.specs.declared.Form.TheVariants.{One, Two}
 use Rattle.layout.specs.Bytes.{map_bytes, maps_of, bit_at, marked, stored_columns, stored_rates, rates_at, widths, row_end, stored_count, starts_in, columns_in, rates_in, form_of, order_of, chain_of}
 use Rattle.layout.proofs.Rates.{MarkedBy, marked_size}
-use Rattle.layout.proofs.FirstByte.{form_in, order_in_lem}
+use Rattle.layout.proofs.FirstByte.{form_in_lem, order_in_lem}
 use Rattle.file_rules.specs.Sound.{zeros_taken}
 use Rattle.file_rules.specs.Verdict.{bad_bit, loose_bit, first_loose_bit, row_checked, rows_checked, file_checked}
 use Rattle.layout.specs.File.{has, map_of, short_columns, marks_of, bytes_of, rates_size, row_bytes, rows_bytes, file_of}
@@ -248,7 +248,7 @@ file_forth form c g small =
     (from_zero form n (drop 1 c.starts) c.columns c.rates (omega (arith, g.order.low)) (omega (arith, length-drop 1 c.starts, s.count))
     (subst (λ (l : List ℕ). RowsKept n 0 l c.columns c.rates) q f) small) in
     let o : order_of (file_of form c) ≡ c.order = order_in_lem c.order (omega (arith, g.order.low)) g.order.high form in
-    let f' : form_of (file_of form c) ≡ form = form_in c.order (omega (arith, g.order.low)) g.order.high form in
+    let f' : form_of (file_of form c) ≡ form = form_in_lem c.order (omega (arith, g.order.low)) g.order.high form in
     record {
       chain_is = rw (o, f') (λ i. rows n (r.starts_are i) (r.columns_are i) (r.rates_are i));
       form_is = f';

@@ -1,10 +1,11 @@
 // Stored chains: a chain read from bytes into lent slices, and written into lent bytes.
 #![tactic(auto)]
+
 ghost use Rattle.std.specs.Prelude.{◌≡◌};
 ghost use Rattle.chain.specs.Rows.{in_rows};
 ghost use Rattle.file_rules.specs.Sound.{zeros_taken, zeros_refused};
 ghost use Rattle.file_rules.specs.Verdict.{read_verdict};
-ghost use Rattle.layout.specs.Buffers.{in_buffers};
+ghost use Rattle.layout.specs.Buffers.{buffers};
 ghost use Rattle.storage.specs.Reading.{told, Read};
 ghost use Rattle.storage.specs.Writing.{Written};
 
@@ -57,8 +58,8 @@ fn read_by(
     rates: &mut [u32],
 ) -> Reading
     ensures { Read zeros bytes.now
-        (in_buffers starts.entry columns.entry rates.entry) result
-        (in_buffers starts.exit columns.exit rates.exit) }
+        (buffers starts.old columns.old rates.old) result
+        (buffers starts.new columns.new rates.new) }
 {
     let answer = judge(bytes, zeros, starts.len(), columns.len(), rates.len());
     let Reading::Chain {
@@ -76,8 +77,8 @@ fn read_by(
 // A stored chain: one with a rate of 0 is refused by 14.
 pub fn read(bytes: &[u8], starts: &mut [u32], columns: &mut [u32], rates: &mut [u32]) -> Reading
     ensures { Read zeros_refused bytes.now
-        (in_buffers starts.entry columns.entry rates.entry) result
-        (in_buffers starts.exit columns.exit rates.exit) }
+        (buffers starts.old columns.old rates.old) result
+        (buffers starts.new columns.new rates.new) }
 {
     read_by(bytes, false, starts, columns, rates)
 }
@@ -90,8 +91,8 @@ pub fn read_with_zeros(
     rates: &mut [u32],
 ) -> Reading
     ensures { Read zeros_taken bytes.now
-        (in_buffers starts.entry columns.entry rates.entry) result
-        (in_buffers starts.exit columns.exit rates.exit) }
+        (buffers starts.old columns.old rates.old) result
+        (buffers starts.new columns.new rates.new) }
 {
     read_by(bytes, true, starts, columns, rates)
 }
