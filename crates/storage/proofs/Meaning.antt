@@ -269,7 +269,8 @@ module _ (zeros : Bool) (bytes : List ℕ) where
       at_order l false t = order_broken l (λ o. false≢true (sym t ∙ order_of_lem _ o))
 
       at_bytes : (b : Bool) → ltb 0 (length bytes) ≡ b
-          → FileSays zeros bytes (cond b (cond (order_sound (order_of bytes)) (rows_checked zeros (form_of bytes) bytes (order_of bytes) (order_of bytes) 0 1 0) (bytes_refused 1 0 0)) (bytes_refused 8 0 0))
+          → FileSays zeros bytes
+          (cond b (cond (order_sound (order_of bytes)) (rows_checked zeros (form_of bytes) bytes (order_of bytes) (order_of bytes) 0 1 0) (bytes_refused 1 0 0)) (bytes_refused 8 0 0))
       at_bytes true t = at_order (ltb-true _ _ t) _ refl
       at_bytes false t = order_absent (omega (arith, ltb-false 0 (length bytes) t))
 

@@ -23,8 +23,8 @@ use Rattle.layout.specs.Forms.{short, width}
 use Rattle.layout.specs.Bytes.{map_bytes, maps_of, bit_at, marked, stored_count, rate_at, rates_at, widths, form_of, order_of}
 use Rattle.file_rules.specs.Sound.{map_at, rates_begin, row_columns, row_marked, row_rates, SoundMap, SoundMarks, SoundRow, SoundTo, FirstBadBit, RateMet}
 use Rattle.file_rules.specs.Sound.{FileSays, order_absent, order_broken, map_cut, bit_broken, marks_cut, mark_loose, rates_cut, rate_zero, mark_wrong, left_over, all_sound}
-use Rattle.file_rules.specs.Verdict.{bytes_refused, bad_bit, first_bad_bit, loose_bit, first_loose_bit, marks_checked, rate_checked, rates_checked, row_checked, file_checked, room_to_read, read_verdict}
-use Rattle.file_rules.specs.Verdict.{ReadSays, bytes_broken, room_short, all_read}
+use Rattle.file_rules.specs.Verdict.{bytes_refused, bad_bit, first_bad_bit, loose_bit, first_loose_bit, marks_checked, rate_checked, rates_checked}
+use Rattle.file_rules.specs.Verdict.{row_checked, file_checked, room_to_read, read_verdict, ReadSays, bytes_broken, room_short, all_read}
 use Rattle.file_rules.proofs.Checks as checks
 use Rattle.file_rules.proofs.Checks.{good_bit, not_bad, tied_bit, not_loose, rate_cut, rate_whole, rate_marked, rate_none, SoundHere, all_rates, marks_loose, marks_whole}
 use Rattle.file_rules.proofs.Checks.{row_no_map, row_bad_bit, row_marks, row_rates_lem, row_whole, RowsLeft, rows_extra, rows_end, rows_stop, rows_more}
