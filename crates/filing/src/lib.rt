@@ -1,5 +1,6 @@
 // The file of a chain, put at the front of a buffer that has room for every file.
 #![tactic(auto)]
+
 ghost use Rattle.std.specs.Prelude.{◌≡◌, ◌≤◌, length};
 ghost use Rattle.chain.specs.Rows.{in_rows};
 ghost use Rattle.chain.specs.Sound.{Accepted};
