@@ -1,11 +1,12 @@
 // The elimination of a set of a chain's states on lent slices: the rates between them loaded, the weights, the shares, each result given to its
 // state, and the work places cleared (internal).
 #![tactic(auto)]
+
 ghost use Rattle.std.specs.Prelude.{◌≡◌, ◌+◌, ◌-◌, ◌<◌, ◌≤◌, length, get_or};
 ghost use Rattle.markov.specs.Elimination.{weights};
 ghost use Rattle.chain.specs.Rows.{in_rows};
 ghost use Rattle.kernel.specs.Numbers.{ops};
-ghost use Rattle.kernel.specs.Slices.{slices};
+ghost use Rattle.kernel.specs.Slices.{pair};
 ghost use Rattle.kernel.specs.Kernel.{Square, Sized, Holds};
 ghost use Rattle.reach.specs.Reach.{stands};
 ghost use Rattle.elimination.specs.Inner.{RowLoaded, Loadable, Loaded, EntryLoaded, set_matrix, Weighable, SetSolved, FirstCleared, Ran};
@@ -27,10 +28,10 @@ fn load_entry(
     m: &mut [u32],
     e: &mut [i32],
 )
-    requires square { Square r (slices m e) }
+    requires square { Square r (pair m.old e.old) }
     requires a_lt_r { (a < r) × (p < length columns.now) × (p < length rates.now) × (get_or columns.now p 0 < length places.now) }
     ensures { EntryLoaded r a (get_or places.now (get_or columns.now p 0) 0) (get_or rates.now p 0)
-        (slices m.entry e.entry) (slices m.exit e.exit) }
+        (pair m.old e.old) (pair m.new e.new) }
 {
     let b = places[wide(columns[p])];
     if b < r {
@@ -51,10 +52,10 @@ fn load_row(
     m: &mut [u32],
     e: &mut [i32],
 )
-    requires loadable { Loadable (in_rows n starts columns rates) states.now places.now r (slices m e) }
+    requires loadable { Loadable (in_rows n starts columns rates) states.now places.now r (pair m.old e.old) }
     requires a_lt_r { a < r }
     ensures { RowLoaded (in_rows n starts.entry columns.entry rates.entry) states.now r a
-        (get_or starts.now (get_or states.now a 0 + 1) 0) (slices m.entry e.entry) (slices m.exit e.exit) }
+        (get_or starts.now (get_or states.now a 0 + 1) 0) (pair m.old e.old) (pair m.new e.new) }
 {
     let i = states[a];
     let end = wide(starts[i + 1]);
@@ -77,8 +78,8 @@ fn load(
     m: &mut [u32],
     e: &mut [i32],
 )
-    requires { Loadable (in_rows n starts columns rates) states.now places.now r (slices m e) }
-    ensures { Loaded (in_rows n starts.entry columns.entry rates.entry) states.now r (slices m.exit e.exit) }
+    requires { Loadable (in_rows n starts columns rates) states.now places.now r (pair m.old e.old) }
+    ensures { Loaded (in_rows n starts.entry columns.entry rates.entry) states.now r (pair m.new e.new) }
 {
     kernel::clear(m, e);
     let mut a = 0;
@@ -102,9 +103,9 @@ fn weigh(
     we: &mut [i32],
 )
     requires weighable { Weighable (in_rows n starts columns rates) (stands set) r }
-    requires square { Square r (slices m e) }
-    requires sized { Sized r (slices wm we) }
-    ensures { Holds r (weights ops (r - 1) (set_matrix (in_rows n starts.entry columns.entry rates.entry) (stands set))) (slices wm.exit we.exit) }
+    requires square { Square r (pair m.old e.old) }
+    requires sized { Sized r (pair wm.old we.old) }
+    ensures { Holds r (weights ops (r - 1) (set_matrix (in_rows n starts.entry columns.entry rates.entry) (stands set))) (pair wm.new we.new) }
 {
     let states = members::states_of(set, n);
     let list = states.list;
@@ -129,11 +130,11 @@ fn solve_set(
     se: &mut [i32],
 )
     requires weighable { Weighable (in_rows n starts columns rates) (stands set) r }
-    requires square { Square r (slices m e) }
-    requires sized { Sized r (slices wm we) }
-    requires sized_2 { Sized r (slices sm se) }
+    requires square { Square r (pair m.old e.old) }
+    requires sized { Sized r (pair wm.old we.old) }
+    requires sized_2 { Sized r (pair sm.old se.old) }
     ensures { SetSolved (in_rows n starts.entry columns.entry rates.entry) (stands set) r
-        (slices m.exit e.exit) (slices wm.exit we.exit) (slices sm.exit se.exit) }
+        (pair m.new e.new) (pair wm.new we.new) (pair sm.new se.new) }
 {
     weigh(n, starts, columns, rates, set, r, m, e, wm, we);
     weighing::share(wm, we, r, sm, se);
@@ -142,7 +143,7 @@ fn solve_set(
 // Zeros in the first k places: how many are cleared is said where it is called.
 fn clear_first(k: usize, m: &mut [u32], e: &mut [i32])
     requires { (k ≤ length m.old) × (k ≤ length e.old) }
-    ensures { FirstCleared k (slices m.entry e.entry) (slices m.exit e.exit) }
+    ensures { FirstCleared k (pair m.old e.old) (pair m.new e.new) }
 {
     kernel::clear(&mut m[..k], &mut e[..k]);
 }
@@ -164,11 +165,11 @@ pub fn run(
     se: &mut [i32],
 )
     requires weighable { Weighable (in_rows n starts columns rates) (stands set) r }
-    requires square { Square n (slices m e) }
-    requires sized { Sized n (slices wm we) }
-    requires sized_2 { Sized n (slices sm se) }
+    requires square { Square n (pair m.old e.old) }
+    requires sized { Sized n (pair wm.old we.old) }
+    requires sized_2 { Sized n (pair sm.old se.old) }
     ensures { Ran (in_rows n starts.entry columns.entry rates.entry) (stands set)
-        (slices m.exit e.exit) (slices wm.exit we.exit) (slices sm.exit se.exit) }
+        (pair m.new e.new) (pair wm.new we.new) (pair sm.new se.new) }
 {
     let inner = r * r;
     solve_set(
