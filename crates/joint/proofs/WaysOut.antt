@@ -1,9 +1,7 @@
 -- What each way out of `join` gives. Assumes nothing.
-use mathlib.Core.Logic.{◌⊎◌, inl, inr}
 use mathlib.Core.Path.{◌≡◌, refl, sym, ap, subst, ◌∙◌}
 use Prim.Native.Nat.{ℕ, ◌+◌, ◌*◌}
 use native.Mathlib.Omega.{arith}
-use denote.Enum.Declared.{tag_of}
 use lib.ListN.{length, take}
 use Rattle.basics.proofs.SetsLaws.{take_sets}
 use Rattle.refusal.specs.Table.{Verdict, Side, accepts, refuses, refusal}
@@ -18,7 +16,6 @@ use Rattle.joined.specs.Verdict.{Whose, of_joint, join_verdict, Joinable, JoinSa
 use Rattle.joined.proofs.JoinedLaws.{joined_count, joined_accepted, joint_chain}
 use Rattle.joined.proofs.Meaning.{join_says}
 use Rattle.joint.specs.declared.Joining.{Joining}
-use Rattle.joint.specs.contracts.Joining.{the_type}
 use Rattle.joint.specs.declared.Joining.TheVariants.{Done, First, Second, Joint}
 use Rattle.joint.specs.Joining.{told_joining, Joins}
 use Rattle.joint.specs.Inner.{PutRows, RowsPut}
@@ -52,10 +49,8 @@ module _ (first second : Rows) (old : Buffers) where
   }
 
   pub join_stop : (r : Joining) → told_joining r ≡ join_verdict first second (length old.starts) (length old.columns) (length old.rates)
-      → (tag_of the_type r ≡ 1) ⊎ (tag_of the_type r ≡ 2) ⊎ (tag_of the_type r ≡ 3) → Joins first second old r old
-  join_stop (Done e) a (inl k) = let z : ◌≡◌ {A = ℕ} 0 1 = k in absurd (omega arith)
-  join_stop (Done e) a (inr (inl k)) = let z : ◌≡◌ {A = ℕ} 0 2 = k in absurd (omega arith)
-  join_stop (Done e) a (inr (inr k)) = let z : ◌≡◌ {A = ℕ} 0 3 = k in absurd (omega arith)
+      → ((e : ℕ) → r ≡ Done e → ⊥) → Joins first second old r old
+  join_stop (Done e) a k = absurd (k e refl)
   join_stop (First f) a k = refused (First f) a f refl
   join_stop (Second f) a k = refused (Second f) a f refl
   join_stop (Joint f) a k = refused (Joint f) a f refl

@@ -1,8 +1,9 @@
 // Two stations side by side: the joint chain of two chains in rows, put into lent slices.
 #![tactic(auto)]
+
 ghost use Rattle.std.specs.Prelude.{◌≡◌, ◌+◌, ◌*◌, ◌<◌, ◌≤◌};
 ghost use Rattle.chain.specs.Rows.{in_rows};
-ghost use Rattle.layout.specs.Buffers.{in_buffers};
+ghost use Rattle.layout.specs.Buffers.{buffers};
 ghost use Rattle.joined.specs.Joined.{joint_rates};
 ghost use Rattle.joined.specs.Verdict.{of_joint, joint_tried, join_verdict, Joinable};
 ghost use Rattle.joint.specs.Joining.{told_joining, Joins};
@@ -152,12 +153,12 @@ fn put_rows(
     rates: &mut [u32],
 )
     requires { Joinable (in_rows a starts1 columns1 rates1) (in_rows b starts2 columns2 rates2)
-        × PutRows (a * b) (joint_rates (in_rows a starts1 columns1 rates1) (in_rows b starts2 columns2 rates2)) (in_buffers starts columns rates) }
+        × PutRows (a * b) (joint_rates (in_rows a starts1 columns1 rates1) (in_rows b starts2 columns2 rates2)) (buffers starts.old columns.old rates.old) }
     ensures { RowsPut (a * b)
         (joint_rates (in_rows a starts1.entry columns1.entry rates1.entry)
         (in_rows b starts2.entry columns2.entry rates2.entry))
-        (in_buffers starts.entry columns.entry rates.entry)
-        (in_buffers starts.exit columns.exit rates.exit) }
+        (buffers starts.old columns.old rates.old)
+        (buffers starts.new columns.new rates.new) }
 {
     let n = a * b;
     let mut x = 0;
@@ -190,8 +191,8 @@ pub fn join(
 ) -> Joining
     ensures { Joins (in_rows a starts1.entry columns1.entry rates1.entry)
         (in_rows b starts2.entry columns2.entry rates2.entry)
-        (in_buffers starts.entry columns.entry rates.entry) result
-        (in_buffers starts.exit columns.exit rates.exit) }
+        (buffers starts.old columns.old rates.old) result
+        (buffers starts.new columns.new rates.new) }
 {
     let answer = judge(
         a,
