@@ -1,7 +1,6 @@
 -- The slices that a caller lends to `solve`: two work slices, two for the weights and two for the shares.
 use Rattle.std.specs.Prelude.{Bool, ◌&&◌, List, ℕ, ◌*◌, ◌≤◌, leb, ℤ, length}
-use Rattle.std.specs.Borrow.{Bor}
-use Rattle.kernel.specs.Slices.{Slices, slices}
+use Rattle.kernel.specs.Slices.{Slices, pair}
 
 pub record Lent : Type 0 where
   pub work : Slices
@@ -9,8 +8,8 @@ pub record Lent : Type 0 where
   pub shares : Slices
 
 -- what six lent slices hold
-abbrev pub lent : Bor (List ℕ) → Bor (List ℤ) → Bor (List ℕ) → Bor (List ℤ) → Bor (List ℕ) → Bor (List ℤ) → Lent
-lent m e wm we sm se = record { work = slices m e; weights = slices wm we; shares = slices sm se }
+abbrev pub lent : List ℕ → List ℤ → List ℕ → List ℤ → List ℕ → List ℤ → Lent
+lent m e wm we sm se = record { work = pair m e; weights = pair wm we; shares = pair sm se }
 
 -- ---- "It needs n × n places in each of two work slices (m and e) and n in each of four result slices"
 

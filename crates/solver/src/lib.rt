@@ -1,5 +1,6 @@
 // The public call that solves a chain: what it refuses, the bound count, and the elimination on the needed places.
 #![tactic(auto)]
+
 ghost use Rattle.std.specs.Prelude.{◌≡◌, ◌≤◌};
 ghost use Rattle.chain.specs.Rows.{in_rows};
 ghost use Rattle.solver.specs.Lent.{lent, both_have, enough};
@@ -87,8 +88,8 @@ pub fn solve(
     se: &mut [i32],
 ) -> Outcome
     ensures { Solved (in_rows n starts.entry columns.entry rates.entry)
-        (lent m.entry e.entry wm.entry we.entry sm.entry se.entry) result
-        (lent m.exit e.exit wm.exit we.exit sm.exit se.exit) }
+        (lent m.old e.old wm.old we.old sm.old se.old) result
+        (lent m.new e.new wm.new we.new sm.new se.new) }
 {
     let found = admit(
         n,
