@@ -1,6 +1,7 @@
 // How an answer is handed to C: a number is returned, and three places of a lent slice, four for a joining, take the rest.
 // For the calls of `stall`.
 #![tactic(auto)]
+
 ghost use Rattle.std.specs.Prelude.{[], ◌∷◌, ◌≡◌};
 ghost use Rattle.refusal.specs.Table.{side, line, verdict};
 ghost use Rattle.layout.specs.Forms.{form_number};
