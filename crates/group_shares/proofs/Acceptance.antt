@@ -21,7 +21,6 @@ use Rattle.solver.specs.Solve.{count_of, solved}
 use Rattle.solver.proofs.Room.{roomy, roomy_held}
 use Rattle.group_table.specs.Rules.{table_checked}
 use Rattle.group_table.specs.Sums.{group_places}
-use Rattle.group_table.specs.Sound as table
 use Rattle.group_table.proofs.Reading as tables
 use Rattle.group_shares.specs.GroupShares.{GroupLent, enough_for, GroupRoomy, groups_solved, GroupsSolvable, GroupsSay, rule_broken, table_broken, no_room, two_closed, solves}
 

@@ -1,6 +1,5 @@
 -- Document 02, R-1: what solving with a group table answers, and what it leaves in every lent place, for any input.
 use Rattle.std.specs.Prelude.{Bool, true, false, cond, ◌&&◌, List, ◌↔◌, ◌≡◌, ℕ, ◌+◌, ◌*◌, ◌<◌, ℤ, length}
-use Rattle.std.specs.Borrow.{Bor}
 use Rattle.basics.specs.Sum.{sum}
 use Rattle.basics.specs.Near.{Near}
 use Rattle.refusal.specs.Table.{Verdict, Side, accepts, refuses, of_chain, numbered, verdict, and_then}
@@ -17,7 +16,7 @@ use Rattle.chain.specs.Sound.{Accepted, Says}
 use Rattle.chain.specs.Meaning.{rate_in}
 use Rattle.reach.specs.ClosedSets.{TwoClosed}
 use Rattle.reach.specs.Answer.{set_of}
-use Rattle.kernel.specs.Slices.{Slices, slices, number_at}
+use Rattle.kernel.specs.Slices.{Slices, pair, number_at}
 use Rattle.solver.specs.Lent.{Lent, lent, both_have, enough_in, Places, Roomy}
 use Rattle.solver.specs.Solve.{weights_of, shares_of, count_of, solved, numbers, zeros, after_in, Balancing, Accurate, AllInside}
 use Rattle.group_table.specs.Rules.{table_checked}
@@ -30,9 +29,8 @@ pub record GroupLent : Type 0 where
   pub solving : Lent
   pub groups : Slices
 
-abbrev pub group_lent : Bor (List ℕ) → Bor (List ℤ) → Bor (List ℕ) → Bor (List ℤ) → Bor (List ℕ) → Bor (List ℤ) → Bor (List ℕ) → Bor (List ℤ)
-    → GroupLent
-group_lent m e wm we sm se gm ge = record { solving = lent m e wm we sm se; groups = slices gm ge }
+abbrev pub group_lent : List ℕ → List ℤ → List ℕ → List ℤ → List ℕ → List ℤ → List ℕ → List ℤ → GroupLent
+group_lent m e wm we sm se gm ge = record { solving = lent m e wm we sm se; groups = pair gm ge }
 
 -- "Sixteen m and sixteen e places are lent, under 5 .. like the other results"
 abbrev pub enough_for : ℕ → GroupLent → Bool

@@ -1,5 +1,6 @@
 // Shares by group (document 02, R-1): the public call that solves a chain and sums its shares by a customer's table.
 #![tactic(auto)]
+
 ghost use Rattle.std.specs.Prelude.{◌≡◌};
 ghost use Rattle.refusal.specs.Table.{verdict};
 ghost use Rattle.chain.specs.Rows.{in_rows};
@@ -75,8 +76,8 @@ pub fn solve_groups(
     ge: &mut [i32],
 ) -> Outcome
     ensures { GroupsSolved (in_rows n starts.entry columns.entry rates.entry) table.now
-        (group_lent m.entry e.entry wm.entry we.entry sm.entry se.entry gm.entry ge.entry) result
-        (group_lent m.exit e.exit wm.exit we.exit sm.exit se.exit gm.exit ge.exit) }
+        (group_lent m.old e.old wm.old we.old sm.old se.old gm.old ge.old) result
+        (group_lent m.new e.new wm.new we.new sm.new se.new gm.new ge.new) }
 {
     if !suits(n, table, gm.len(), ge.len()) {
         return admit(n, starts, columns, rates, table, gm.len(), ge.len());
