@@ -1,5 +1,6 @@
 // A chain without its entries of rate 0, put into second slices.
 #![tactic(auto)]
+
 ghost use Rattle.std.specs.Prelude.{map, ◌≡◌};
 ghost use Rattle.std.proofs.lemmas.List.Edits.{sets};
 ghost use Rattle.chain.specs.Rows.{in_rows};
