@@ -1,8 +1,9 @@
 // The public calls, exported for C: a number is returned, and three places of a lent slice, four for `stall_join`, take the rest of the
 // answer. `capi/stall.h` declares them. No call asks anything of its lent slices: any lengths do.
 #![tactic(auto)]
+
 ghost use Rattle.chain.specs.Rows.{in_rows};
-ghost use Rattle.layout.specs.Buffers.{in_buffers};
+ghost use Rattle.layout.specs.Buffers.{buffers};
 ghost use Rattle.solver.specs.Lent.{lent};
 ghost use Rattle.group_shares.specs.GroupShares.{group_lent};
 ghost use Rattle.stall.specs.Calls.{SolveCalled, GroupsCalled, ReadCalled, WriteCalled, JoinCalled};
@@ -25,8 +26,8 @@ pub extern "C" fn stall_solve(
     answer: &mut [usize],
 ) -> u32
     ensures { SolveCalled (in_rows n starts.entry columns.entry rates.entry)
-        (lent m.entry e.entry wm.entry we.entry sm.entry se.entry) answer.old result
-        (lent m.exit e.exit wm.exit we.exit sm.exit se.exit) answer.new }
+        (lent m.old e.old wm.old we.old sm.old se.old) answer.old result
+        (lent m.new e.new wm.new we.new sm.new se.new) answer.new }
 {
     let outcome = solver::solve(n, starts, columns, rates, m, e, wm, we, sm, se);
     telling::tell_count(outcome, answer)
@@ -51,8 +52,8 @@ pub extern "C" fn stall_solve_groups(
     answer: &mut [usize],
 ) -> u32
     ensures { GroupsCalled (in_rows n starts.entry columns.entry rates.entry) table.now
-        (group_lent m.entry e.entry wm.entry we.entry sm.entry se.entry gm.entry ge.entry) answer.old result
-        (group_lent m.exit e.exit wm.exit we.exit sm.exit se.exit gm.exit ge.exit) answer.new }
+        (group_lent m.old e.old wm.old we.old sm.old se.old gm.old ge.old) answer.old result
+        (group_lent m.new e.new wm.new we.new sm.new se.new gm.new ge.new) answer.new }
 {
     let outcome = group_shares::solve_groups(
         n, starts, columns, rates, table, m, e, wm, we, sm, se, gm, ge,
@@ -69,8 +70,8 @@ pub extern "C" fn stall_read(
     rates: &mut [u32],
     answer: &mut [usize],
 ) -> u32
-    ensures { ReadCalled bytes.now (in_buffers starts.entry columns.entry rates.entry) answer.old result
-        (in_buffers starts.exit columns.exit rates.exit) answer.new }
+    ensures { ReadCalled bytes.now (buffers starts.old columns.old rates.old) answer.old result
+        (buffers starts.new columns.new rates.new) answer.new }
 {
     let reading = storage::read(bytes, starts, columns, rates);
     telling::tell_reading(reading, answer)
@@ -129,8 +130,8 @@ pub extern "C" fn stall_join(
 ) -> u32
     ensures { JoinCalled (in_rows n1 starts1.entry columns1.entry rates1.entry)
         (in_rows n2 starts2.entry columns2.entry rates2.entry)
-        (in_buffers starts.entry columns.entry rates.entry) answer.old result
-        (in_buffers starts.exit columns.exit rates.exit) answer.new }
+        (buffers starts.old columns.old rates.old) answer.old result
+        (buffers starts.new columns.new rates.new) answer.new }
 {
     let joining = joint::join(
         n1, starts1, columns1, rates1, n2, starts2, columns2, rates2, starts, columns, rates,
