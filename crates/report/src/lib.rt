@@ -1,5 +1,6 @@
 // What the printing program prints for any bytes, put at the front of a lent buffer.
 #![tactic(auto)]
+
 ghost use Rattle.std.specs.Prelude.{◌≡◌, ◌≤◌, ◌<◌, length};
 ghost use Rattle.chain.specs.Rows.{in_rows};
 ghost use Rattle.layout.specs.Buffers.{in_buffers, chain_in};
