@@ -1,5 +1,6 @@
 // What the converting program writes for any bytes, put at the front of a lent buffer.
 #![tactic(auto)]
+
 ghost use Rattle.std.specs.Prelude.{◌≡◌, ◌≤◌, ◌<◌, length};
 ghost use Rattle.chain.specs.Sound.{Accepted};
 ghost use Rattle.layout.specs.Buffers.{in_buffers, chain_in};
