@@ -6,21 +6,13 @@
 // then the starts, the columns, the rates and the table. Each lent place holds 7 before the call. Bytes that are no call print
 // `unreadable`. The input and the expected lines come from tests/groups_run.py.
 #![tactic(auto)]
+
 ghost use Rattle.std.specs.Prelude.{◌+◌, ◌≤◌, ◌<◌, length};
-ghost use Rattle.io.specs.Counts.{IsPrefixLen};
+ghost use Rattle.framed.specs.Framed.{IsPrefixLen};
 
-use framed::Next;
-use libc::{STDIN_FILENO, STDOUT_FILENO};
 use refusal::Outcome;
-
-fn newline() {
-    io::write_all(STDOUT_FILENO, b"\n");
-}
-
-fn print_number(x: usize) {
-    io::write_all(STDOUT_FILENO, b" ");
-    io::print_decimal(STDOUT_FILENO, x as u64);
-}
+use std::fmt::Display;
+use std::io;
 
 fn wide(byte: u8) -> u32 {
     byte as u32
@@ -40,103 +32,60 @@ fn at_most(n: usize, most: usize) -> usize
 
 // ---- the text
 
-fn print_outcome(outcome: Outcome) {
+fn print_outcome(rt: HostRuntime, outcome: Outcome) -> io::Result<()> {
     match outcome {
-        Outcome::Done(k) => {
-            io::write_all(STDOUT_FILENO, b"accepted");
-            print_number(k);
-        }
+        Outcome::Done(k) => println!(rt; "accepted {k}"),
         Outcome::Refused(refusal) => {
             let line = refusal::listed(refusal);
-            io::write_all(STDOUT_FILENO, b"refused");
-            print_number(size(line.number));
-            print_number(line.first);
-            print_number(line.second);
+            println!(rt; "refused {} {} {}", line.number, line.first, line.second)
         }
     }
-    newline();
 }
 
 // The blank before a run of equal places, and how many they are if more than one.
-fn print_times(count: usize) {
+fn print_times(rt: HostRuntime, count: usize) -> io::Result<()> {
     if 1 < count {
-        print_number(count);
-        io::write_all(STDOUT_FILENO, b"x");
+        print!(rt; " {count}x")
     } else {
-        io::write_all(STDOUT_FILENO, b" ");
+        print!(rt; " ")
     }
 }
 
 // Where the run of equal places ends that begins here.
-fn run_end(places: &[u32], from: usize) -> usize
+fn run_end<T: PartialEq>(places: &[T], from: usize) -> usize
     requires { from < length places.now }
     ensures { (from < result) × (result ≤ length places.now) }
 {
-    let mut end = from + 1;
-    while end < places.len() {
+    for end in from + 1..places.len() {
         if places[end] != places[from] {
             return end;
         }
-        end += 1;
     }
-    end
-}
-
-fn print_word(x: u32) {
-    io::print_decimal(STDOUT_FILENO, x as u64);
+    places.len()
 }
 
 // The places of a slice, each run of equal ones once.
-fn print_places(name: &[u8], places: &[u32]) {
-    io::write_all(STDOUT_FILENO, name);
+fn print_places<T: Display + PartialEq>(
+    rt: HostRuntime,
+    name: &str,
+    places: &[T],
+) -> io::Result<()> {
+    print!(rt; "{name}")?;
     let mut at = 0;
     while at < places.len() {
         let end = run_end(places, at);
-        print_times(end - at);
-        print_word(places[at]);
+        print_times(rt, end - at)?;
+        print!(rt; "{}", places[at])?;
         at = end;
     }
-    newline();
-}
-
-// At most 11 bytes.
-fn print_signed(e: i32) {
-    let mut text = [0u8; 11];
-    let n = decimal::put_signed(&mut text, 0, e);
-    io::write_all(STDOUT_FILENO, &text[..n]);
-}
-
-// The same for exponents.
-fn signed_run_end(places: &[i32], from: usize) -> usize
-    requires { from < length places.now }
-    ensures { (from < result) × (result ≤ length places.now) }
-{
-    let mut end = from + 1;
-    while end < places.len() {
-        if places[end] != places[from] {
-            return end;
-        }
-        end += 1;
-    }
-    end
-}
-
-fn print_signed_places(name: &[u8], places: &[i32]) {
-    io::write_all(STDOUT_FILENO, name);
-    let mut at = 0;
-    while at < places.len() {
-        let end = signed_run_end(places, at);
-        print_times(end - at);
-        print_signed(places[at]);
-        at = end;
-    }
-    newline();
+    println!(rt)
 }
 
 // ---- a call
 
 // The answer, and every lent place.
 fn print_all(
+    rt: HostRuntime,
     outcome: Outcome,
     m: &[u32],
     e: &[i32],
@@ -146,19 +95,20 @@ fn print_all(
     se: &[i32],
     gm: &[u32],
     ge: &[i32],
-) {
-    print_outcome(outcome);
-    print_places(b"m", m);
-    print_signed_places(b"e", e);
-    print_places(b"wm", wm);
-    print_signed_places(b"we", we);
-    print_places(b"sm", sm);
-    print_signed_places(b"se", se);
-    print_places(b"gm", gm);
-    print_signed_places(b"ge", ge);
+) -> io::Result<()> {
+    print_outcome(rt, outcome)?;
+    print_places(rt, "m", m)?;
+    print_places(rt, "e", e)?;
+    print_places(rt, "wm", wm)?;
+    print_places(rt, "we", we)?;
+    print_places(rt, "sm", sm)?;
+    print_places(rt, "se", se)?;
+    print_places(rt, "gm", gm)?;
+    print_places(rt, "ge", ge)
 }
 
 fn solve_and_print(
+    rt: HostRuntime,
     n: usize,
     starts: &[u32],
     columns: &[u32],
@@ -172,15 +122,22 @@ fn solve_and_print(
     se: &mut [i32],
     gm: &mut [u32],
     ge: &mut [i32],
-) {
+) -> io::Result<()> {
     let outcome = group_shares::solve_groups(
         n, starts, columns, rates, table, m, e, wm, we, sm, se, gm, ge,
     );
-    print_all(outcome, m, e, wm, we, sm, se, gm, ge);
+    print_all(rt, outcome, m, e, wm, we, sm, se, gm, ge)
 }
 
 // One call: its first thirteen numbers, and its lists.
-fn lend(head: &[u32], starts: &[u32], columns: &[u32], rates: &[u32], table: &[u32])
+fn lend(
+    rt: HostRuntime,
+    head: &[u32],
+    starts: &[u32],
+    columns: &[u32],
+    rates: &[u32],
+    table: &[u32],
+) -> io::Result<()>
     requires { 13 ≤ length head.now }
 {
     let mut m = [7u32; 4100];
@@ -200,6 +157,7 @@ fn lend(head: &[u32], starts: &[u32], columns: &[u32], rates: &[u32], table: &[u
     let gm_places = at_most(size(head[11]), 20);
     let ge_places = at_most(size(head[12]), 20);
     solve_and_print(
+        rt,
         size(head[0]),
         starts,
         columns,
@@ -213,34 +171,33 @@ fn lend(head: &[u32], starts: &[u32], columns: &[u32], rates: &[u32], table: &[u
         &mut se[..se_places],
         &mut gm[..gm_places],
         &mut ge[..ge_places],
-    );
+    )
 }
 
-fn unreadable() {
-    io::write_all(STDOUT_FILENO, b"unreadable\n");
+fn unreadable(rt: HostRuntime) -> io::Result<()> {
+    println!(rt; "unreadable")
 }
 
 // The numbers of a call: thirteen, and the lists.
-fn read_call(words: &[u32]) {
+fn read_call(rt: HostRuntime, words: &[u32]) -> io::Result<()> {
     if words.len() < 13 {
-        unreadable();
-        return;
+        return unreadable(rt);
     }
     let columns = 13 + size(words[1]);
     let rates = columns + size(words[2]);
     let table = rates + size(words[3]);
     let end = table + size(words[4]);
     if end != words.len() {
-        unreadable();
-        return;
+        return unreadable(rt);
     }
     lend(
+        rt,
         words,
         &words[13..columns],
         &words[columns..rates],
         &words[rates..table],
         &words[table..end],
-    );
+    )
 }
 
 // ---- the input
@@ -260,37 +217,22 @@ fn unpack(bytes: &[u8], words: &mut [u32]) -> usize
     ensures { IsPrefixLen result words.new }
 {
     let count = at_most(bytes.len() / 4, words.len());
-    let mut i = 0;
-    while i < count {
+    for i in 0..count {
         words[i] = word(bytes, 4 * i);
-        i += 1;
     }
     count
 }
 
-fn answer(bytes: &[u8]) {
+fn answer(rt: HostRuntime, bytes: &[u8]) -> io::Result<()> {
     if bytes.len() % 4 != 0 {
-        unreadable();
-        return;
+        return unreadable(rt);
     }
     let mut words = [0u32; 16384];
     let count = unpack(bytes, &mut words);
-    read_call(&words[..count]);
+    read_call(rt, &words[..count])
 }
 
-// A proved loop has to end, so it counts its turns down from a number that no input uses up.
-fn all_calls(buffer: &mut [u8]) {
-    let mut turns = u64::MAX;
-    while 0 < turns {
-        let Next::File(n) = framed::fetch(STDIN_FILENO, buffer) else {
-            return;
-        };
-        answer(&buffer[..n]);
-        turns -= 1;
-    }
-}
-
-fn main() {
+fn main(rt: HostRuntime) -> io::Result<()> {
     let mut buffer = [0u8; 65535];
-    all_calls(&mut buffer);
+    framed::each_file(&mut rt.stdin(), &mut buffer, |bytes| answer(rt, bytes))
 }

@@ -7,34 +7,25 @@
 // is refused, `first` or `second` stands in front; where its reading is refused already, the two are not joined and nothing follows. The
 // input and the expected lines come from tests/joint_run.py; `tools/chain join` reads the first of the two lines.
 #![tactic(auto)]
+
 ghost use Rattle.std.specs.Prelude.{◌*◌, ◌≤◌, length};
 
 use framed::Next;
 use joint::Joining;
 use layout::Form;
-use libc::{STDIN_FILENO, STDOUT_FILENO};
 use refusal::{Outcome, Refusal};
+use std::io;
 use storage::Reading;
 
 // ---- the text
 
-fn print_number(x: usize) {
-    io::write_all(STDOUT_FILENO, b" ");
-    io::print_decimal(STDOUT_FILENO, x as u64);
-}
-
-fn newline() {
-    io::write_all(STDOUT_FILENO, b"\n");
-}
-
 // Whose refusal it is, in a word and a blank, or nothing; then its number and places.
-fn print_refusal(whose: &[u8], refusal: Refusal) {
+fn print_refusal(rt: HostRuntime, whose: &str, refusal: Refusal) -> io::Result<()> {
     let line = refusal::listed(refusal);
-    io::write_all(STDOUT_FILENO, whose);
-    io::write_all(STDOUT_FILENO, b"refused");
-    print_number(line.number as usize);
-    print_number(line.first);
-    print_number(line.second);
+    print!(rt;
+        "{whose}refused {} {} {}",
+        line.number, line.first, line.second
+    )
 }
 
 // A hexadecimal digit, for numbers below 16.
@@ -52,41 +43,34 @@ fn digit(x: u8) -> u8 {
 fn put_digits(bytes: &[u8], text: &mut [u8])
     requires { 2 * length bytes.now ≤ length text.old }
 {
-    let mut i = 0;
-    while i < bytes.len() {
+    for i in 0..bytes.len() {
         text[2 * i] = digit(bytes[i] / 16);
         text[2 * i + 1] = digit(bytes[i] % 16);
-        i += 1;
     }
 }
 
 // The first bytes of a file's buffer, so many, in hexadecimal digits.
-fn print_bytes(buffer: &[u8], size: usize) {
+fn print_bytes(rt: HostRuntime, buffer: &[u8], size: usize) -> io::Result<()> {
     let mut text = [0u8; 2 * layout::LONGEST_FILE];
     if size <= buffer.len() && size <= layout::LONGEST_FILE {
         put_digits(&buffer[..size], &mut text);
-        io::write_all(STDOUT_FILENO, &text[..2 * size]);
+        rt.write_all(&text[..2 * size])?;
     }
+    Ok(())
 }
 
 // How many places at the end hold 5,000.
 fn kept(places: &[u32]) -> usize {
-    let mut count = 0;
-    while count < places.len() {
+    for count in 0..places.len() {
         if places[places.len() - 1 - count] != 5000 {
             return count;
         }
-        count += 1;
     }
-    count
+    places.len()
 }
 
-fn print_kept(starts: &[u32], columns: &[u32], rates: &[u32]) {
-    io::write_all(STDOUT_FILENO, b" kept");
-    print_number(kept(starts));
-    print_number(kept(columns));
-    print_number(kept(rates));
-    newline();
+fn print_kept(rt: HostRuntime, starts: &[u32], columns: &[u32], rates: &[u32]) -> io::Result<()> {
+    println!(rt; " kept {} {} {}", kept(starts), kept(columns), kept(rates))
 }
 
 // ---- the joint chain
@@ -100,7 +84,14 @@ fn joint_order(a: usize, b: usize) -> usize {
 }
 
 // Writes a chain that stands in lent slices, and prints the file.
-fn print_file(order: usize, entries: usize, starts: &[u32], columns: &[u32], rates: &[u32]) {
+fn print_file(
+    rt: HostRuntime,
+    order: usize,
+    entries: usize,
+    starts: &[u32],
+    columns: &[u32],
+    rates: &[u32],
+) -> io::Result<()> {
     let mut out = [0u8; layout::LONGEST_FILE];
     if order < starts.len() && entries <= columns.len() && entries <= rates.len() {
         match storage::write(
@@ -111,14 +102,16 @@ fn print_file(order: usize, entries: usize, starts: &[u32], columns: &[u32], rat
             &rates[..entries],
             &mut out,
         ) {
-            Outcome::Done(size) => print_bytes(&out, size),
-            Outcome::Refused(refusal) => print_refusal(b"written ", refusal),
+            Outcome::Done(size) => print_bytes(rt, &out, size)?,
+            Outcome::Refused(refusal) => print_refusal(rt, "written ", refusal)?,
         }
     }
+    Ok(())
 }
 
 // Joins two parts, which begin their slices, into the three last slices, and prints the line.
 fn print_joint(
+    rt: HostRuntime,
     a: usize,
     entries1: usize,
     starts1: &[u32],
@@ -132,7 +125,7 @@ fn print_joint(
     starts: &mut [u32],
     columns: &mut [u32],
     rates: &mut [u32],
-) {
+) -> io::Result<()> {
     if a < starts1.len() && entries1 <= columns1.len() && entries1 <= rates1.len() {
         if b < starts2.len() && entries2 <= columns2.len() && entries2 <= rates2.len() {
             match joint::join(
@@ -149,15 +142,16 @@ fn print_joint(
                 rates,
             ) {
                 Joining::Done(entries) => {
-                    print_file(joint_order(a, b), entries, starts, columns, rates)
+                    print_file(rt, joint_order(a, b), entries, starts, columns, rates)?
                 }
-                Joining::First(refusal) => print_refusal(b"first ", refusal),
-                Joining::Second(refusal) => print_refusal(b"second ", refusal),
-                Joining::Joint(refusal) => print_refusal(b"", refusal),
+                Joining::First(refusal) => print_refusal(rt, "first ", refusal)?,
+                Joining::Second(refusal) => print_refusal(rt, "second ", refusal)?,
+                Joining::Joint(refusal) => print_refusal(rt, "", refusal)?,
             }
-            print_kept(starts, columns, rates);
+            print_kept(rt, starts, columns, rates)?;
         }
     }
+    Ok(())
 }
 
 // ---- the parts
@@ -177,20 +171,21 @@ fn read_part(
 }
 
 // A part that was not read.
-fn print_unread(whose: &[u8], refusal: Refusal) {
-    print_refusal(whose, refusal);
-    newline();
+fn print_unread(rt: HostRuntime, whose: &str, refusal: Refusal) -> io::Result<()> {
+    print_refusal(rt, whose, refusal)?;
+    println!(rt)
 }
 
 // One line: what joining two stored chains into these slices gives.
 fn print_line(
+    rt: HostRuntime,
     first: &[u8],
     second: &[u8],
     old: bool,
     starts: &mut [u32],
     columns: &mut [u32],
     rates: &mut [u32],
-) {
+) -> io::Result<()> {
     let mut starts1 = [0u32; layout::MOST_STARTS];
     let mut columns1 = [0u32; layout::MOST_ENTRIES];
     let mut rates1 = [0u32; layout::MOST_ENTRIES];
@@ -198,20 +193,20 @@ fn print_line(
     let mut columns2 = [0u32; layout::MOST_ENTRIES];
     let mut rates2 = [0u32; layout::MOST_ENTRIES];
     match read_part(first, old, &mut starts1, &mut columns1, &mut rates1) {
-        Reading::Refused(refusal) => print_unread(b"first ", refusal),
+        Reading::Refused(refusal) => print_unread(rt, "first ", refusal),
         Reading::Chain {
             order: a,
             entries: e1,
             form: _,
         } => {
             match read_part(second, old, &mut starts2, &mut columns2, &mut rates2) {
-                Reading::Refused(refusal) => print_unread(b"second ", refusal),
+                Reading::Refused(refusal) => print_unread(rt, "second ", refusal),
                 Reading::Chain {
                     order: b,
                     entries: e2,
                     form: _,
                 } => print_joint(
-                    a, e1, &starts1, &columns1, &rates1, b, e2, &starts2, &columns2, &rates2,
+                    rt, a, e1, &starts1, &columns1, &rates1, b, e2, &starts2, &columns2, &rates2,
                     starts, columns, rates,
                 ),
             }
@@ -222,43 +217,59 @@ fn print_line(
 // ---- the input
 
 // With room for every joint chain, of files without rates of 0.
-fn with_room(first: &[u8], second: &[u8]) {
+fn with_room(rt: HostRuntime, first: &[u8], second: &[u8]) -> io::Result<()> {
     let mut starts = [5000u32; layout::MOST_STARTS];
     let mut columns = [5000u32; layout::MOST_ENTRIES];
     let mut rates = [5000u32; layout::MOST_ENTRIES];
-    print_line(first, second, false, &mut starts, &mut columns, &mut rates);
+    print_line(
+        rt,
+        first,
+        second,
+        false,
+        &mut starts,
+        &mut columns,
+        &mut rates,
+    )
 }
 
 // With room for up to 8 states, 24 columns and 20 rates, of old files too.
-fn with_less(first: &[u8], second: &[u8]) {
+fn with_less(rt: HostRuntime, first: &[u8], second: &[u8]) -> io::Result<()> {
     let mut starts = [5000u32; 9];
     let mut columns = [5000u32; 24];
     let mut rates = [5000u32; 20];
-    print_line(first, second, true, &mut starts, &mut columns, &mut rates);
+    print_line(
+        rt,
+        first,
+        second,
+        true,
+        &mut starts,
+        &mut columns,
+        &mut rates,
+    )
 }
 
-fn report(first: &[u8], second: &[u8]) {
-    with_room(first, second);
-    with_less(first, second);
+fn report(rt: HostRuntime, first: &[u8], second: &[u8]) -> io::Result<()> {
+    with_room(rt, first, second)?;
+    with_less(rt, first, second)
 }
 
-// A proved loop has to end, so it counts its turns down from a number that no input uses up.
-fn all_pairs(first: &mut [u8], second: &mut [u8]) {
-    let mut turns = u64::MAX;
-    while 0 < turns {
-        let Next::File(n) = framed::fetch(STDIN_FILENO, first) else {
-            return;
+// A proved loop has to end, so it takes a number of turns that no input uses up.
+fn all_pairs(rt: HostRuntime, first: &mut [u8], second: &mut [u8]) -> io::Result<()> {
+    let mut stdin = rt.stdin();
+    for _ in 0..u64::MAX {
+        let Next::File(n) = framed::fetch(&mut stdin, first)? else {
+            break;
         };
-        let Next::File(m) = framed::fetch(STDIN_FILENO, second) else {
-            return;
+        let Next::File(m) = framed::fetch(&mut stdin, second)? else {
+            break;
         };
-        report(&first[..n], &second[..m]);
-        turns -= 1;
+        report(rt, &first[..n], &second[..m])?;
     }
+    Ok(())
 }
 
-fn main() {
+fn main(rt: HostRuntime) -> io::Result<()> {
     let mut first = [0u8; layout::ENOUGH_BYTES];
     let mut second = [0u8; layout::ENOUGH_BYTES];
-    all_pairs(&mut first, &mut second);
+    all_pairs(rt, &mut first, &mut second)
 }
