@@ -1,5 +1,6 @@
 // What the cleaning program writes for any bytes, put at the front of a lent buffer.
 #![tactic(auto)]
+
 ghost use Rattle.std.specs.Prelude.{◌≤◌, ◌<◌, length};
 ghost use Rattle.chain.specs.Rows.{in_rows};
 ghost use Rattle.chain.specs.Sound.{Sound};
