@@ -12,7 +12,8 @@ use lib.ListN.{get_or, get_or-eq_default}
 use Rattle.basics.specs.Sum.{sum}
 use Rattle.basics.specs.Below.{count, all}
 use Rattle.basics.proofs.BoolLaws.{all_at}
-use Rattle.scaled.specs.Scaled.{bit_length_up_to, bit_length, is_scaled_at, upward, carried, nearest, rounded_sum, rounded_product, rounded_quotient, converted, sum_of, product_of, quotient_of, rate_of}
+use Rattle.scaled.specs.Scaled.{bit_length_up_to, bit_length, is_scaled_at, upward, carried, nearest, rounded_sum, rounded_product, rounded_quotient}
+use Rattle.scaled.specs.Scaled.{converted, sum_of, product_of, quotient_of, rate_of}
 use Rattle.scaled.specs.Units.{one_number}
 use Rattle.markov.specs.Closed.{size, member, alone, spread, set_weights, set_shares}
 use Rattle.markov.specs.Elimination as elimination

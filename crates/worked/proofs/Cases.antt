@@ -2,7 +2,8 @@
 -- `scaled` only cases that state bits, here and in `report` and `cleaning`, unfold its sum, product, quotient and conversion. Assumes nothing.
 use mathlib.Core.Path.{refl}
 use Rattle.basics.specs.Sum.{sum, prod}
-use Rattle.scaled.specs.Scaled.{bit_length_up_to, bit_length, is_scaled_at, upward, carried, nearest, rounded_sum, rounded_product, rounded_quotient, converted, is_scaled, sum_of, product_of, quotient_of, rate_of}
+use Rattle.scaled.specs.Scaled.{bit_length_up_to, bit_length, is_scaled_at, upward, carried, nearest, rounded_sum, rounded_product, rounded_quotient}
+use Rattle.scaled.specs.Scaled.{converted, is_scaled, sum_of, product_of, quotient_of, rate_of}
 use Rattle.scaled.specs.Units.{one_number}
 use Rattle.basics.specs.Below.{count, all, put}
 use Rattle.markov.specs.Weight.{over, led, leads, moves, weight}

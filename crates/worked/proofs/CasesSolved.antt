@@ -80,7 +80,8 @@ unfolding solved enough checked rules_checked starts_sound columns_checked entry
 says_short s = says_solved chain2 lent2 s.says
 
 pub says_0 : {r : Outcome} {new : Lent} → Solved chain0 lent7 r new → verdict r ≡ refuses of_chain (numbered 6 0 1)
-unfolding solved enough checked rules_checked starts_sound columns_checked entry_bad zeros_checked rate_in answered one_closed set_of lowest_set first_lowest second_lowest is_lowest settles all via sum
+unfolding solved enough checked rules_checked starts_sound columns_checked entry_bad zeros_checked rate_in
+    answered one_closed set_of lowest_set first_lowest second_lowest is_lowest settles all via sum
 says_0 s = says_solved chain0 lent7 s.says
 
 pub says_6 : {r : Outcome} {new : Lent} → Solved chain6 lent2 r new → verdict r ≡ refuses of_chain (numbered 14 0 1)
