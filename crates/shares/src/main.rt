@@ -1,19 +1,16 @@
 // The printing program: reads one stored chain from standard input and prints its weights and shares, or the one line of its refusal.
-// Where a read or a write fails it says so on standard error, and after a failed read it prints nothing: a program has no exit status.
+// Where a read or a write fails it says so on standard error, and after a failed read it prints nothing. Its exit status is 0 even then.
 #![tactic(auto)]
-use libc::{STDERR_FILENO, STDOUT_FILENO};
 
-fn main() {
+fn main(rt: HostRuntime) {
     let mut input = input::buffer();
     let mut text = report::text_buffer();
-    let got = input::read_input(&mut input);
-    if got < 0 {
-        io::write_all(STDERR_FILENO, b"shares: could not read standard input\n");
+    let Ok(count) = input::read_input(&mut rt.stdin(), &mut input) else {
+        let _ = eprintln!(rt; "shares: could not read standard input");
         return;
-    }
-    let count = io::count(got, &input);
+    };
     let n = report::report(&input[..count], &mut text);
-    if !io::write_all(STDOUT_FILENO, &text[..n]) {
-        io::write_all(STDERR_FILENO, b"shares: could not write the result\n");
+    if rt.write_all(&text[..n]).is_err() {
+        let _ = eprintln!(rt; "shares: could not write the result");
     }
 }
