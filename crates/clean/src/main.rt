@@ -1,19 +1,16 @@
 // The cleaning program: reads one stored chain from standard input and writes it without its entries of rate 0, or the one line of its refusal.
-// Where a read or a write fails it says so on standard error, and after a failed read it writes nothing: a program has no exit status.
+// Where a read or a write fails it says so on standard error, and after a failed read it writes nothing. Its exit status is 0 even then.
 #![tactic(auto)]
-use libc::{STDERR_FILENO, STDOUT_FILENO};
 
-fn main() {
+fn main(rt: HostRuntime) {
     let mut input = input::buffer();
     let mut output = filing::file_buffer();
-    let got = input::read_input(&mut input);
-    if got < 0 {
-        io::write_all(STDERR_FILENO, b"clean: could not read standard input\n");
+    let Ok(count) = input::read_input(&mut rt.stdin(), &mut input) else {
+        let _ = eprintln!(rt; "clean: could not read standard input");
         return;
-    }
-    let count = io::count(got, &input);
+    };
     let n = cleaning::clean(&input[..count], &mut output);
-    if !io::write_all(STDOUT_FILENO, &output[..n]) {
-        io::write_all(STDERR_FILENO, b"clean: could not write the result\n");
+    if rt.write_all(&output[..n]).is_err() {
+        let _ = eprintln!(rt; "clean: could not write the result");
     }
 }

@@ -1,27 +1,19 @@
 // Reads files, each after its length in two bytes, low byte first, and writes for each what the cleaning program writes.
 #![tactic(auto)]
-use framed::Next;
-use libc::{STDIN_FILENO, STDOUT_FILENO};
 
-fn write_cleaned(bytes: &[u8]) {
+use std::io;
+
+fn write_cleaned(rt: HostRuntime, bytes: &[u8]) -> io::Result<()> {
     let mut output = filing::file_buffer();
     let n = cleaning::clean(bytes, &mut output);
-    io::write_all(STDOUT_FILENO, &output[..n]);
+    rt.write_all(&output[..n])
 }
 
-// A proved loop has to end, so it counts its turns down from a number that no input uses up.
-fn all_files(buffer: &mut [u8]) {
-    let mut turns = u64::MAX;
-    while 0 < turns {
-        let Next::File(n) = framed::fetch(STDIN_FILENO, buffer) else {
-            return;
-        };
-        write_cleaned(&buffer[..n]);
-        turns -= 1;
-    }
-}
-
-fn main() {
+fn main(rt: HostRuntime) -> io::Result<()> {
     let mut buffer = [0u8; layout::ENOUGH_BYTES];
-    all_files(&mut buffer);
+    framed::each_file(
+        &mut rt.stdin(),
+        &mut buffer,
+        |bytes| write_cleaned(rt, bytes),
+    )
 }
