@@ -127,7 +127,7 @@ def contracts(house, architecture, readme):
         if file.path.suffix != ".rt" or any(fnmatch(crate, name) for name in shut):
             continue
         types = {name: crate for name in TYPE_OF_CODE.findall("\n".join(file.lines))}
-        types |= {name: module.split("::")[0] for name, (module, _, _) in file.imports.items() if "::" in module}
+        types |= {name: module.split("::")[0] for name, (module, _, _) in file.imports.items() if "::" in module and not module.startswith("std::")}
         for name, text in CALL.findall("\n".join(file.lines)):
             head, ensures, contract = text.partition("ensures")
             if ensures and "requires" not in text:
