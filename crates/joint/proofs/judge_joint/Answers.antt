@@ -7,24 +7,12 @@ use Rattle.joined.specs.Verdict.{of_joint}
 use Rattle.joined.proofs.Verdicts.{tried_order, tried_room, tried_no_room}
 use Rattle.joint.proofs.judge_joint.Goals as goal
 
-pub overflow_mul-a : goal.overflow_mul-a
-overflow_mul-a c = omega (arith, mul-le-mul c.requires.0 c.requires.1)
-
 pub returns-then-a-b-gt64 : goal.returns-then-a-b-gt64
 returns-then-a-b-gt64 c = ap (λ v. (of_joint, v)) (tried_order _ _ _ _ _ (omega (arith, c.if-a-b-gt64.true)))
 
 -- an order times a number of entries, whichever they are
 small : {n e : ℕ} → n ≤ 64 → e < 4294967296 → n * e ≤ 274877906944
 small {n} {e} l m = let k : e ≤ 4294967296 = omega arith in mul-le-mul l k
-
-pub overflow_mul-entries : goal.overflow_mul-entries
-overflow_mul-entries c = let p = c.requires in omega (arith, small p.0 p.2, small p.1 p.2)
-
-pub overflow_mul-entries-2 : goal.overflow_mul-entries-2
-overflow_mul-entries-2 c = let p = c.requires in omega (arith, small p.0 p.3, small p.1 p.3)
-
-pub overflow_add-entries : goal.overflow_add-entries
-overflow_add-entries c = let p = c.requires in omega (arith, small p.0 p.2, small p.1 p.2, small p.0 p.3, small p.1 p.3)
 
 pub returns-then-room_for : goal.returns-then-room_for
 returns-then-room_for c = ap (λ v. (of_joint, v)) (tried_room _ _ _ _ _ (omega (arith, c.if-a-b-gt64.false)) (omega arith) (sym c.room_for.ensures ∙ c.if-room_for.true))

@@ -1,20 +1,11 @@
 -- One turn for each column; the entries before it have been put. Assumes nothing.
 use native.Mathlib.Omega.{arith}
-use Rattle.joint.proofs.RowLaws.{row_moved, row_first, row_room, row_more, row_none, row_end_lem}
+use Rattle.joint.proofs.RowLaws.{row_moved, row_first, row_room, row_more, row_none}
 use Rattle.joint.proofs.put_row.Goals as goal
 use Rattle.joint.proofs.put_row.Goals.{then-rate-gt0, else-rate-gt0}
 
-pub overflow_mul-n : goal.overflow_mul-n
-overflow_mul-n c = omega (arith, c.requires.0.order)
-
 pub loop-y-init : goal.loop-y-init
 loop-y-init c = row_first _ _ _ _ _ _
-
-pub joint_rate-rate-requires : goal.joint_rate-rate-requires
-joint_rate-rate-requires c = let s = c in (s.requires.0, s.requires.1.inside)
-
-pub overflow_cast-columns : goal.overflow_cast-columns
-overflow_cast-columns c = omega (arith, c.loop-y-test.true, c.requires.0.order)
 
 pub offset_bounds-columns-q : goal.offset_bounds-columns-q
 offset_bounds-columns-q c =
@@ -51,6 +42,3 @@ loop-y-preserved c =
       | else-rate-gt0 w ↦
           row_moved w.columns-is w.rates-is w.q-is (row_none _ _ _ _ _ _ t l (omega (arith, w.if-rate-gt0.false, c.joint_rate-rate.ensures)))
     ]
-
-pub returns : goal.returns
-returns c = row_end_lem _ _ _ _ _ _ c.loop-y.invariant c.loop-y-test.false

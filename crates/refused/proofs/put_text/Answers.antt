@@ -1,10 +1,7 @@
 -- What is left to store at each turn is the rest of the text, from the next place on. Assumes nothing.
-use Prim.Native.Nat.{◌+◌, ◌-◌, ◌≤◌}
-use mathlib.Core.Path.{◌≡◌, refl, sym, ◌∙◌}
+use mathlib.Core.Path.{refl, sym, ◌∙◌}
 use borrow.Author.Rules.{rules}
 use native.Mathlib.Omega.{arith}
-use lib.ListN.{length, drop}
-use lib.Seq.{sets}
 use Rattle.basics.proofs.SetsLaws.{sets_start, sets_next, sets_end}
 use Rattle.refused.proofs.put_text.Goals as goal
 

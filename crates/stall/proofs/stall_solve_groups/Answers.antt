@@ -4,5 +4,4 @@ use Rattle.stall.proofs.stall_solve_groups.Goals as goal
 
 pub returns : goal.returns
 returns c =
-    let b = c in
-    groups_called b.solve_groups-outcome.ensures c.tell_count.ensures
+    groups_called c.solve_groups-outcome.ensures c.tell_count.ensures

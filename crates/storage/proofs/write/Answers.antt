@@ -8,19 +8,6 @@ use Rattle.storage.proofs.write.Goals as goal
 pub returns-in_default : goal.returns-in_default
 returns-in_default c = write_stop _ _ _ _ _ c.check-answer.ensures.computed c.in_default.is
 
-pub maps_of-requires : goal.maps_of-requires
-maps_of-requires c = (accepted_sound _ (sym c.in-Done.ensures.computed)).order.high
-
-pub overflow_mul-size : goal.overflow_mul-size
-overflow_mul-size c =
-    let m = maps_product _ _ (accepted_sound _ (sym c.in-Done.ensures.computed)).order.high c.maps_of.ensures.1 in
-    omega (arith, m)
-
-pub overflow_add-size : goal.overflow_add-size
-overflow_add-size c =
-    let m = maps_product _ _ (accepted_sound _ (sym c.in-Done.ensures.computed)).order.high c.maps_of.ensures.1 in
-    omega (arith, m)
-
 pub overflow_add-size-2 : goal.overflow_add-size-2
 overflow_add-size-2 c =
     let m = maps_product _ _ (accepted_sound _ (sym c.in-Done.ensures.computed)).order.high c.maps_of.ensures.1 in
@@ -31,11 +18,6 @@ pub returns-then-out-size : goal.returns-then-out-size
 returns-then-out-size c =
     let z = size_is c.args.form c.args.n c.maps_of.result c.rates_size.result c.args.rates.now c.maps_of.ensures.0 c.rates_size.ensures in
     write_no_room _ _ _ _ (sym c.in-Done.ensures.computed) (omega (arith, c.if-out-size.true, z))
-
-pub put_chain-requires : goal.put_chain-requires
-put_chain-requires c =
-    let z = size_is c.args.form c.args.n c.maps_of.result c.rates_size.result c.args.rates.now c.maps_of.ensures.0 c.rates_size.ensures in
-    (sym c.in-Done.ensures.computed, omega (arith, c.if-out-size.false, z))
 
 pub returns : goal.returns
 returns c =

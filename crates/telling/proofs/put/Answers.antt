@@ -1,11 +1,6 @@
 -- `put` writes the three places where there is room, and nothing otherwise. Assumes nothing.
-use native.Mathlib.Omega.{arith}
-use lib.ListN.{length-set}
 use Rattle.telling.proofs.Answers.{room_put, none_put}
 use Rattle.telling.proofs.put.Goals as goal
-
-pub bounds-answer-1 : goal.bounds-answer-1
-bounds-answer-1 c = omega (arith, c.if-answer-ge3.true, length-set c.args.answer.now 0 c.args.first)
 
 pub returns-then-answer-ge3 : goal.returns-then-answer-ge3
 returns-then-answer-ge3 c = room_put _ _ c.if-answer-ge3.true

@@ -6,29 +6,25 @@ use Rattle.packing.proofs.put.put_entries.Goals as goal
 
 pub put_map-requires : goal.put_map-requires
 put_map-requires c =
-    let start = c in
-    let a = start.args in
+    let a = c.args in
     let p = row_parts a.form a.n a.columns.now a.rates.now in
-    (start.requires.0, omega (arith, start.requires.1), omega (arith, start.requires.2, p))
+    (c.requires.0, omega (arith, c.requires.1), omega (arith, c.requires.2, p))
 
 pub put_marks-place-requires : goal.put_marks-place-requires
 put_marks-place-requires c =
-    let start = c in
-    let a = start.args in
+    let a = c.args in
     let p = row_parts a.form a.n a.columns.now a.rates.now in
-    (start.requires.0, start.requires.1, omega (arith, start.requires.2, p))
+    (c.requires.0, c.requires.1, omega (arith, c.requires.2, p))
 
 pub put_rates-requires : goal.put_rates-requires
 put_rates-requires c =
-    let start = c in
-    let a = start.args in
+    let a = c.args in
     let p = row_parts a.form a.n a.columns.now a.rates.now in
-    omega (arith, start.requires.2, p, c.put_marks-place.ensures.1)
+    omega (arith, c.requires.2, p, c.put_marks-place.ensures.1)
 
 pub returns : goal.returns
 returns c =
-    let start = c in
-    let a = start.args in
+    let a = c.args in
     let p = row_parts a.form a.n a.columns.now a.rates.now in
     let rates = c.put_rates.ensures in
     let marks = c.put_marks-place.ensures in

@@ -5,10 +5,9 @@ use Rattle.packing.proofs.put.put_marks.Goals as goal
 
 pub put_map-requires : goal.put_map-requires
 put_map-requires c =
-    let start = c in
-    let a = start.args in
+    let a = c.args in
     let w = marks_width a.form a.n a.columns.now a.rates.now a.out.now a.m c.in-Two.is in
-    (start.requires.0, omega (arith, start.requires.1), omega (arith, start.requires.2, w))
+    (c.requires.0, omega (arith, c.requires.1), omega (arith, c.requires.2, w))
 
 pub returns-in-One : goal.returns-in-One
 returns-in-One c = marks_none _ _ _ _ _ _ c.in-One.is

@@ -12,9 +12,8 @@ put_rate-a-requires c =
 
 pub loop-i-preserved : goal.loop-i-preserved
 loop-i-preserved c =
-    let call = c in
-    putting_more _ _ _ _ _ _ _ call.loop-i.invariant call.loop-i-test.true _
-    call.is_short.ensures _ _ call.put_rate-a.ensures
+    putting_more _ _ _ _ _ _ _ c.loop-i.invariant c.loop-i-test.true _
+    c.is_short.ensures _ _ c.put_rate-a.ensures
 
 pub shape_of-out : goal.shape_of-out
 shape_of-out c = c.loop-i.invariant.same
