@@ -4,7 +4,7 @@
 ghost use Rattle.std.specs.Prelude.{◌≡◌, ◌+◌, ◌*◌, ◌<◌, IfOk, length, take};
 ghost use Rattle.std.specs.Io.{ReadsAtMost};
 ghost use Rattle.std.specs.Io.KnownBytes.{Consumes, IsAtEnd};
-ghost use Rattle.framed.specs.Framed.{Fetched};
+ghost use Rattle.framed.specs.Framed.{Fetched, Taken};
 
 use std::io;
 use std::io::Read;
@@ -46,7 +46,8 @@ fn length_of(low: u8, high: u8) -> usize
 
 // Reads the next file into the buffer.
 pub fn fetch<R: Read>(from: &mut R, buffer: &mut [u8]) -> io::Result<Next>
-    ensures { IfOk result (λ next. Fetched next buffer.old buffer.new) }
+    ensures buffer { IfOk result (λ next. Fetched next buffer.old buffer.new) }
+    ensures bytes { IfOk result (λ next. Taken next (R.remaining from.old) (R.remaining from.new) buffer.new) }
 {
     let mut head = [0u8; 2];
     let got = read_full(from, &mut head)?;

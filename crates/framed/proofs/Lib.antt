@@ -1,2 +1,0 @@
--- Laws of a buffer that holds a file.
-pub mod FetchedLaws
