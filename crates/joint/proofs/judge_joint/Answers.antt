@@ -1,18 +1,12 @@
 -- 15, then 5. Assumes nothing.
 use mathlib.Core.Path.{sym, ap, ◌∙◌}
-use Prim.Native.Nat.{ℕ, ◌*◌, ◌<◌, ◌≤◌}
 use native.Mathlib.Omega.{arith}
-use native.Mathlib.Nat.{mul-le-mul}
 use Rattle.joined.specs.Verdict.{of_joint}
 use Rattle.joined.proofs.Verdicts.{tried_order, tried_room, tried_no_room}
 use Rattle.joint.proofs.judge_joint.Goals as goal
 
 pub returns-then-a-b-gt64 : goal.returns-then-a-b-gt64
 returns-then-a-b-gt64 c = ap (λ v. (of_joint, v)) (tried_order _ _ _ _ _ (omega (arith, c.if-a-b-gt64.true)))
-
--- an order times a number of entries, whichever they are
-small : {n e : ℕ} → n ≤ 64 → e < 4294967296 → n * e ≤ 274877906944
-small {n} {e} l m = let k : e ≤ 4294967296 = omega arith in mul-le-mul l k
 
 pub returns-then-room_for : goal.returns-then-room_for
 returns-then-room_for c = ap (λ v. (of_joint, v)) (tried_room _ _ _ _ _ (omega (arith, c.if-a-b-gt64.false)) (omega arith) (sym c.room_for.ensures ∙ c.if-room_for.true))
