@@ -65,7 +65,7 @@ class File:
         for number, line in enumerate(self.lines, 1):
             code = comments.sub("", line).rstrip()
             if not code:
-                kept = bool(line) and (kept or bool(re.search(r"kept for R-\d", line)))
+                kept = bool(line) and (kept or bool(re.search(r"kept (?:for R-\d|since the port)", line)))
                 continue
             found = IMPORT.fullmatch(code)
             if found:
@@ -74,7 +74,7 @@ class File:
             column = len(code) - len(code.lstrip())
             if record is not None and column <= record:
                 record = None
-            head = TYPE.match(code) or HEAD.match(code)
+            head = TYPE.match(code) or not code.endswith(";") and HEAD.match(code)  # a field of a record's value is no declaration
             if head and record is None and comment == "--":
                 owner = head[1]
                 record = column if TYPE.match(code) else None
@@ -99,7 +99,7 @@ class File:
 
     def add_import(self, number, module, names, alias):
         if names is None:
-            self.imports[alias or module.split("::")[-1]] = (module, None, number)
+            self.imports[alias or re.split(r"::|\.", module)[-1]] = (module, None, number)
             return
         for one in names.split(","):
             name, _, local = one.strip().partition(" as ")

@@ -66,6 +66,7 @@ both true x e = (refl, e)
 both false x e = absurd (false≢true e)
 
 -- a test that was passed or failed, of which the branch says `not`
+-- kept since the port: today the check finds what cited it
 pub passed : {r s : Bool} → r ≡ s → not r ≡ false → s ≡ true
 passed {r} e n = sym e ∙ not-false r n
 

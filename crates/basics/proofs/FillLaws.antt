@@ -19,6 +19,7 @@ module _ {A : Type 0} (v : A) where
   pub fill_go : (n : ℕ) (s d : List A) → n < length d → s ≡ replicate n v ++ drop n d → set s n v ≡ replicate (n + 1) v ++ drop (n + 1) d
   fill_go n s d l p = ap (λ (t : List A). set t n v) p ∙ rw add-one (fill_suc n d l)
 
+  -- kept since the port: today the check finds what cited it
   pub fill_end : (n : ℕ) (s d : List A) → n ≡ length d → s ≡ replicate n v ++ drop n d → s ≡ replicate (length d) v
   fill_end n s d e p = p ∙ rw (e, drop-length) (append-nil _)
 

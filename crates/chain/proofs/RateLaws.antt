@@ -113,6 +113,7 @@ module _ {c : Rows} (i j : ℕ) where
   none_first = record { low = omega arith; none = λ p a b. absurd (omega arith) }
 
   module _ (place : ℕ) (h : NoneBefore c i j place) where
+    -- kept since the port: today the check finds what cited it
     pub none_next : column_at c place ≢ j → NoneBefore c i j (place + 1)
     none_next d = record { low = omega (arith, h.low); none = none }
       where

@@ -37,16 +37,20 @@ pub record Counting (rates : List ℕ) (i count : ℕ) : Type 0 where
   pub left : count + positives (drop i rates) ≡ positives rates
 
 module _ (rates : List ℕ) where
+  -- kept since the port: today the check finds what cited it
   pub counting_start : Counting rates 0 0
   counting_start = record { turn = omega arith; few = omega arith; left = omega arith }
 
   module _ (i count : ℕ) (f : Counting rates i count) where
+    -- kept since the port: today the check finds what cited it
     pub count_hit : i < length rates → 0 < get_or rates i 0 → Counting rates (i + 1) (count + 1)
     count_hit l h = record { turn = omega arith; few = omega (arith, f.few); left = omega (arith, f.left, ap length (kept_hit rates rates i refl l h)) }
 
+    -- kept since the port: today the check finds what cited it
     pub count_miss : i < length rates → get_or rates i 0 ≡ 0 → Counting rates (i + 1) count
     count_miss l h = record { turn = omega arith; few = omega (arith, f.few); left = omega (arith, f.left, ap length (kept_miss rates rates i refl l h)) }
 
+    -- kept since the port: today the check finds what cited it
     pub count_end : length rates ≤ i → count ≡ positives rates
     count_end l = let z : positives (drop i rates) ≡ 0 = rw (drop_of_length-le rates {i = i} l) in omega (arith, f.left)
 
@@ -60,6 +64,7 @@ pub record Keeping (values rates out₀ out : List ℕ) (p q : ℕ) : Type 0 whe
   pub to : sets out₀ 0 (kept values rates) ≡ sets out q (kept (drop p values) (drop p rates))
 
 module _ (values rates out₀ : List ℕ) (a : PutKept values rates out₀) where
+  -- kept since the port: today the check finds what cited it
   pub keeping_start : Keeping values rates out₀ out₀ 0 0
   keeping_start = record { turn = omega arith; few = omega arith; here = omega arith; same = refl; to = refl }
 
@@ -86,6 +91,7 @@ module _ (values rates out₀ : List ℕ) (a : PutKept values rates out₀) wher
           to = rw e at f.to;
         }
 
+    -- kept since the port: today the check finds what cited it
     pub keep_end : length rates ≤ p → KeptPut values rates out₀ q out
     keep_end l =
         let z : kept (drop p values) (drop p rates) ≡ [] = rw (drop_of_length-le values {i = p} (omega (arith, a.lengths))) in
@@ -111,6 +117,7 @@ recount rates a b l =
     ap positives (rw e at (take-add a (b - a) rates)) ∙ positives_append (take a rates) (take (b - a) (drop a rates))
 
 module _ (n : ℕ) (starts rates out₀ : List ℕ) (a : PutStarts n starts rates out₀) where
+  -- kept since the port: today the check finds what cited it
   pub recounting_start : Recounting n starts rates out₀ out₀ 0 0 0
   recounting_start = record { turn = omega arith; up = λ l. omega arith; counted = refl; same = refl; to = refl }
 
@@ -126,5 +133,6 @@ module _ (n : ℕ) (starts rates out₀ : List ℕ) (a : PutStarts n starts rate
           to = f.to ∙ rw (drop-cons starts row 0 (omega (arith, a.count)), add-one row, e);
         }
 
+    -- kept since the port: today the check finds what cited it
     pub recount_end : n < row → out ≡ sets out₀ 0 (map (new_place rates) starts)
     recount_end l = sym (f.to ∙ rw (drop_of_length-le starts {i = row} (omega (arith, a.count))))

@@ -29,9 +29,11 @@ pub record Mapped (f : ℕ → ℕ) (from to : ℕ) (l l' : List ℕ) : Type 0 w
   pub behind : (s : ℕ) → to ≤ s → get_or l' s 0 ≡ get_or l s 0
 
 module _ (f : ℕ → ℕ) (from : ℕ) (l : List ℕ) where
+  -- kept since the port: today the check finds what cited it
   pub mapped_none : Mapped f from from l l
   mapped_none = record { kept = refl; inside = λ s a b. absurd (omega arith); before = λ s a. refl; behind = λ s a. refl }
 
+  -- kept since the port: today the check finds what cited it
   pub mapped_next : {to : ℕ} {l' : List ℕ} (x : ℕ) → Mapped f from to l l' → from ≤ to → to < length l → x ≡ f (get_or l' to 0)
       → Mapped f from (to + 1) l (set l' to x)
   mapped_next {to} {l'} x h a b e = record {
@@ -45,6 +47,7 @@ module _ (f : ℕ → ℕ) (from : ℕ) (l : List ℕ) where
     behind = λ s c. get_or-set_other l' to s x 0 (λ q. omega arith) ∙ h.behind s (omega arith);
   }
 
+  -- kept since the port: today the check finds what cited it
   pub mapped_end : {to last : ℕ} {l' : List ℕ} → Mapped f from to l l' → to ≡ last + 1 → Changed f from last l l'
   mapped_end h e = record {
     kept = h.kept;
@@ -109,6 +112,7 @@ module _ {n : ℕ} {table seen : List ℕ} (order : n ≤ 64) (h : Counted table
 pub record Filled (table : List ℕ) (k : ℕ) (of : List ℕ) : Type 0 where
   pub at : (row state : ℕ) → row < k → Held table state row → get_or of state 0 ≡ group_number table row
 
+-- kept since the port: today the check finds what cited it
 pub filled_none : (table of : List ℕ) → Filled table 0 of
 filled_none table of = record { at = λ row state l h. absurd (omega arith) }
 

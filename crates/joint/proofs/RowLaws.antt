@@ -92,6 +92,7 @@ module _ (n : ℕ) (f : Rates) (x : ℕ) (columns rates : List ℕ) (p : ℕ) wh
       rates_long = h.rates_long;
     }
 
+    -- kept since the port: today the check finds what cited it
     pub row_end_lem : n ≤ y → JointRowPut n f x columns rates p q columns' rates'
     row_end_lem l =
         let e : y ≡ n = omega (arith, h.below) in

@@ -33,6 +33,7 @@ answer_size n K weight share = length-append (header_line n K) (state_lines weig
 
 -- ---- the line of a state, put in four parts
 
+-- kept since the port: today the check finds what cited it
 pub fields_size : (x : Scaled) → length (fields x) ≡ 2 + length (decimal x.m) + length (signed x.e)
 fields_size x = simp length-append (omega arith)
 
@@ -72,6 +73,7 @@ pub record Rest (weight share : ℕ → Scaled) (n at : ℕ) (out₀ out : List 
   pub next_is : at + length (state_lines weight share n 0) ≡ p + length (state_lines weight share (n - i) i)
 
 module _ (weight share : ℕ → Scaled) (n at : ℕ) (out₀ : List ℕ) where
+  -- kept since the port: today the check finds what cited it
   pub rest_start : Rest weight share n at out₀ out₀ at 0
   rest_start = let e : n - 0 ≡ n = omega arith in record { seen = omega arith; size = refl; out_is = rw e; next_is = rw e }
 

@@ -23,6 +23,7 @@ pub record Filling (form : Form) (bytes : List ℕ) (n map : ℕ) (columns₀ ra
   pub rates_to : sets rates₀ p (stored_rates form bytes n map) ≡ sets rates q (rates_at (marked form bytes n map) bytes (columns_from bytes n map j) place)
 
 module _ (form : Form) (bytes : List ℕ) (n map : ℕ) (columns₀ rates₀ : List ℕ) (p : ℕ) where
+  -- kept since the port: today the check finds what cited it
   pub begin : (maps : ℕ) → maps ≡ maps_of form n → Filling form bytes n map columns₀ rates₀ p columns₀ rates₀ 0 p (map + maps)
   begin maps e =
       rw e
@@ -74,9 +75,11 @@ module _ (form : Form) (bytes : List ℕ) (n map : ℕ) (columns₀ rates₀ : L
           }
 
       -- a bit that stands has its place and its bytes
+      -- kept since the port: today the check finds what cited it
       pub room : (q < p + stored_count bytes n map) × (place + width mark ≤ row_end form bytes n map)
       room = (omega (arith, f.here, more), omega (arith, f.from, wider))
 
+  -- kept since the port: today the check finds what cited it
   pub done : (columns rates : List ℕ) (j q place : ℕ) → Filling form bytes n map columns₀ rates₀ p columns rates j q place → n ≤ j → FilledRow form bytes n map columns₀ rates₀ p q place columns rates
   done columns rates j q place f h =
       let s : columns_from bytes n map j ≡ [] = columns_end bytes n map j h in

@@ -82,5 +82,6 @@ told_again (Bytes (bytes.Mark row bit)) = refl
 pub verdict_fixes : (r s : Refusal) → verdict (Refused s) ≡ verdict (Refused r) → s ≡ r
 verdict_fixes r s e = sym (told_again s) ∙ ap refusal_of e ∙ told_again r
 
+-- kept since the port: today the check finds what cited it
 pub is_listed : (r : Refusal) → Listed r (line r)
 is_listed r = record { line_is = refl; never_7 = never_7 r; the_only = λ s e. verdict_fixes r s e }

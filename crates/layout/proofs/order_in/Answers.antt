@@ -1,6 +1,5 @@
 -- `order_in`: the order that a first byte tells. Assumes nothing.
 use native.Mathlib.Omega.{arith}
-use borrow.Author.Rules.{rules}
 use borrow.Author.Tests.{lt-ltb, le-ltb}
 use Rattle.layout.specs.Forms.{form_in, order_in}
 use Rattle.layout.proofs.order_in.Goals as goal

@@ -1,0 +1,2 @@
+-- Laws of a buffer that holds a file.
+pub mod FetchedLaws
