@@ -24,12 +24,11 @@ loop-done-preserved g c =
     let more = c.in_ok-more.more in
     let buf = c.loop-done.buf in
     let room = length buf - from in
-    let within = c.loop-done.invariant.in_bounds in
+    let within = c.loop-done.invariant.1 in
     let part = put_mid_taken from room more buf c.read.new.buf within c.in_ok-more.ensures.bound.0 in
-    let joined = take_split from (from + more) buf (put_mid from room buf c.read.new.buf) (omega arith) (take-put_mid_below _ _ _ _ _ (le_refl _) within) in
-    record {
-      same_length = search rules;
-      in_bounds = search rules;
-      bytes = subst (Consumes _ _) (ap (λ l. take from buf ++ l) (sym part) ∙ joined)
-          (Consumes-trans _ _ _ _ _ c.loop-done.invariant.bytes c.in_ok-more.ensures.bytes.0);
-    }
+    let joined = take_split from (from + more) buf (put_mid from room buf c.read.new.buf) (omega arith) (take-put_mid_below _ _ _ _ _ (le_refl _) within) in (
+      search rules,
+      search rules,
+      subst (Consumes _ _) (ap (λ l. take from buf ++ l) (sym part) ∙ joined)
+          (Consumes-trans _ _ _ _ _ c.loop-done.invariant.2 c.in_ok-more.ensures.bytes.0),
+    )
