@@ -11,12 +11,10 @@ use Rattle.layout.specs.Bytes.{map_bytes, stored_count, stored_columns, widths, 
 use Rattle.layout.specs.File.{map_of, bytes_of, rates_size, row_bytes, rows_bytes, file_of, file_size}
 
 -- "four bytes each, low byte first"
--- kept since the port: today the check finds what cited it
 pub bytes_one : (rate : ℕ) (rates : List ℕ)
     → bytes_of One (rate ∷ rates) ≡ rate % 256 ∷ rate / 256 % 256 ∷ rate / 256 / 256 % 256 ∷ rate / 256 / 256 / 256 ∷ bytes_of One rates
 bytes_one rate rates = refl
 
--- kept since the port: today the check finds what cited it
 pub row_one : (n : ℕ) (columns rates : List ℕ) → row_bytes One n columns rates ≡ map_of columns (map_bytes n) 0 ++ bytes_of One rates
 row_one n columns rates = refl
 

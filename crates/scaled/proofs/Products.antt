@@ -39,7 +39,6 @@ rounded_twice : sum_with_product (record { m = 2269235112; e = pos 33 }) (record
 unfolding sum_of product_of rounded_sum rounded_product is_scaled_at nearest carried upward bit_length bit_length_up_to
 rounded_twice = refl
 
--- kept since the port: today the check finds what cited it
 at_once : nearest 31 (exact_sum (record { m = 2269235112; e = pos 33 }) (record { m = 3821699725 * 4006204038; e = pos 0 })) ≡ Number (record { m = 4051612929; e = pos 33 })
 unfolding nearest carried upward bit_length bit_length_up_to
 at_once = refl
