@@ -24,12 +24,18 @@ def alone(folder):
         path = str(ROOT / "target" / "bin" / name)
         reading, writing = ("", f"{name}: could not read standard input\n"), f"{name}: could not write the result\n"
         there = os.open(folder, os.O_RDONLY)
-        check(f"{name}: standard input is a folder", ran(path, stdin=there)[1:] == reading)
+        check(f"{name}: standard input is a folder", ran(path, stdin=there) == (0, *reading))
         os.close(there)
-        check(f"{name}: standard input is closed", ran("sh", "-c", f"'{path}' <&-")[1:] == reading)
-        check(f"{name}: an empty input", ran(path, stdin=subprocess.DEVNULL)[1:] == ("refused 8 0 0\n", ""))
-        check(f"{name}: a full disk", ran("sh", "-c", f"'{path}' <'{STATION}' >/dev/full")[2] == writing)
-        check(f"{name}: standard output is closed", ran("sh", "-c", f"'{path}' <'{STATION}' >&-")[2] == writing)
+        check(f"{name}: standard input is closed", ran("sh", "-c", f"'{path}' <&-") == (0, *reading))
+        check(f"{name}: an empty input", ran(path, stdin=subprocess.DEVNULL) == (0, "refused 8 0 0\n", ""))
+        check(f"{name}: a full disk", ran("sh", "-c", f"'{path}' <'{STATION}' >/dev/full")[::2] == (0, writing))
+        check(f"{name}: standard output is closed", ran("sh", "-c", f"'{path}' <'{STATION}' >&-")[::2] == (0, writing))
+        reader, writer = os.pipe()
+        os.close(reader)
+        with open(STATION, "rb") as file:
+            unread = ran(path, stdin=file, stdout=writer, stderr=subprocess.PIPE)
+        os.close(writer)
+        check(f"{name}: a pipe that nobody reads: {unread}", unread[::2] == (0, writing))
 
 
 def paused(path, pieces):

@@ -113,6 +113,8 @@ def main():
     arguments = [a for a in sys.argv[1:]]
     if arguments and not arguments[0].startswith('--'):
         root = os.path.abspath(arguments.pop(0))
+    if not any(glob.iglob(root + '/crates/*/proofs/**/Proof.antt', recursive=True)):
+        sys.exit('respell: these files have today\'s form already, and names that Rattle makes would be changed')
     changed = renames(root)
     if '--names' in arguments:
         for old, new in sorted(changed.items()):

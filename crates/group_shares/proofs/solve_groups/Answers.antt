@@ -33,6 +33,13 @@ returns-in_default c =
 
 -- ---- a chain that `solve` lets pass
 
+pub returns : goal.returns
+returns c =
+    let a = c.args in
+    let old = group_lent a.m.now a.e.now a.wm.now a.we.now a.sm.now a.se.now a.gm.now a.ge.now in
+    let q = by_solving _ _ old (sym c.suits.ensures ∙ c.if-not-suits.false) c.solve-answer.ensures in
+    groups_done _ old q (ap verdict c.in-Done.is) c.solve-answer.ensures c.sum_shares.ensures
+
 record Facts (n : ℕ) (table : List ℕ) (old : GroupLent) (mid : Lent) : Type 0 where
   shares : Places n mid.shares
   groups : Places group_places old.groups
@@ -99,10 +106,3 @@ sum_shares-requires c =
     let a = c.args in
     let old = group_lent a.m.now a.e.now a.wm.now a.we.now a.sm.now a.se.now a.gm.now a.ge.now in
     (facts _ _ old _ _ _ (sym c.suits.ensures ∙ c.if-not-suits.false) c.solve-answer.ensures c.in-Done.is).sums
-
-pub returns : goal.returns
-returns c =
-    let a = c.args in
-    let old = group_lent a.m.now a.e.now a.wm.now a.we.now a.sm.now a.se.now a.gm.now a.ge.now in
-    let q = by_solving _ _ old (sym c.suits.ensures ∙ c.if-not-suits.false) c.solve-answer.ensures in
-    groups_done _ old q (ap verdict c.in-Done.is) c.solve-answer.ensures c.sum_shares.ensures

@@ -1,0 +1,2 @@
+-- The sizes that the bound count meets on the way.
+pub mod Sizes
