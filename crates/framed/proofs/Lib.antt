@@ -1,2 +1,3 @@
--- Laws of a buffer that holds a file.
+-- Laws of a buffer that holds a file, and evaluated cases.
 pub mod FetchedLaws
+pub mod Cases
