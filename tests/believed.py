@@ -1,9 +1,11 @@
 #!/usr/bin/env python3
 """What a reader must believe: the definitions of specs/ on which the public contracts rest. Run by itself it prints them.
 
-A public contract is the `ensures` of a public call without `requires`, in a crate that docs/ARCHITECTURE.md calls neither internal nor a
-test; and each record or statement of specs/ (a name with a capital letter) that README.md names between backquotes. It rests on the
-definitions that it cites and on those that these use, in turn; bound names, fields and projections are no use of a definition.
+A public contract is the `ensures` of a public call without `requires`, a function or a method of a type (named `Type::method`), in a crate
+that docs/ARCHITECTURE.md calls neither internal nor a test; what a public type there says of itself for a trait (the ghost lines of
+`Trait for Type`); and each record or statement of specs/ (a name with a capital letter) that README.md names between backquotes. It rests on
+the definitions that it cites and on those that these use, in turn, on the types of its head, of a method also on its own type, and on what
+the ghost fields of these types cite; bound names, fields and projections are no use of a definition.
 A definition is a record, a data type or a function, with all its clauses; its lines are those that are neither empty nor comment.
 """
 import re
@@ -14,8 +16,14 @@ from fnmatch import fnmatch
 from rattle_files import ROOT, all_files, has, module_file, words
 
 CALL = re.compile(r'^pub (?:unsafe )?(?:extern "C" )?fn (\w+)(.*?)^\{', re.MULTILINE | re.DOTALL)
+IMPL = re.compile(r"^impl(?:<[^>]*>)? (\w+)(?:<[^>]*>)? \{(.*?)^\}", re.MULTILINE | re.DOTALL)
+TRAIT = re.compile(r"^impl(?:<[^>]*>)? (?:\w+::)*(\w+)(?:<[^>]*>)? for (\w+)(?:<[^>]*>)? \{(.*?)^\}", re.MULTILINE | re.DOTALL)
+METHOD = re.compile(r"^    pub fn (\w+)(.*?)^    \{", re.MULTILINE | re.DOTALL)
 TYPE_OF_CODE = re.compile(r"^pub (?:struct|enum) (\w+)", re.MULTILINE)
-DECLARED = re.compile(r"Rattle\.(\w+)\.specs\.declared\.(\w+)")
+STRUCT = re.compile(r"^pub struct (\w+)[^{;(]*\{(.*?)^\}", re.MULTILINE | re.DOTALL)
+LAW = re.compile(r"^    ghost \w+: (.*?)(?=^    \S|\Z)", re.MULTILINE | re.DOTALL)
+GIVEN = re.compile(r"^    ghost \w+ = (.*?);$", re.MULTILINE | re.DOTALL)
+DECLARED = re.compile(r"Rattle\.(\w+)\.specs\.declared\.(?:[a-z]\w*\.)*(\w+)")
 NAME = r"[^\s(){}\[\]:;,.=]+"
 BINDER = re.compile(rf"[({{]({NAME}(?: {NAME})*) : ")
 BOUND = (BINDER, re.compile(rf"λ ((?:{NAME} )*{NAME})\."), re.compile(rf"let ({NAME}) ="))
@@ -45,6 +53,19 @@ class House:
                 if file.text[owner][0].removeprefix("pub ").startswith("data "):
                     self.type_of.update({(name, one): owner for one in fields(file.text[owner][1:])[0]})
         self.known = {}
+        self.types = defaultdict(set)  # of the code, by their crate
+        self.laws = {}  # what the ghost fields of a type of the code cite
+        for file in files.values():
+            if file.path.suffix == ".rt":
+                crate, code = file.name.split("/")[1], "\n".join(file.lines)
+                self.types[crate].update(TYPE_OF_CODE.findall(code))
+                self.laws.update({(crate, name): self.cited_by_fields(file, body) for name, body in STRUCT.findall(code)})
+
+    def cited_by_fields(self, file, body):
+        """What the ghost fields of a struct cite, from its body."""
+        text = " ".join(LAW.findall(body))
+        bound = set(re.findall(r"(\w+):", body)) | {one for names in BINDER.findall(text) for one in names.split()}
+        return set(self.resolve(file, words(text) - bound))
 
     def resolve(self, file, found):
         """The definitions, and the types of the code (crate, type), that words of a file mean."""
@@ -103,7 +124,7 @@ class House:
             one = waiting.pop()
             if one not in seen:
                 seen.add(one)
-                waiting += self.uses(*one) if one[0] in self.specs else []
+                waiting += self.uses(*one) if one[0] in self.specs else self.laws.get(one, ())
         return seen
 
     def definitions(self, seen):
@@ -119,6 +140,23 @@ def closed_crates(architecture):
     return [name for floor, names, what in rows if "(internal)" in what or floor == "tests" for name in re.findall(r"`([\w*]+)`", names)]
 
 
+def calls_of(code):
+    """The public calls of a file, functions and methods: name, own type of a method or None, text from the parameters to the body."""
+    for name, text in CALL.findall(code):
+        yield name, None, text
+    for owner, body in IMPL.findall(code):
+        for name, text in METHOD.findall(body):
+            yield f"{owner}::{name}", owner, text
+
+
+def given_of(code):
+    """What the types of a file say of themselves for a trait: name, type, the text of the ghost lines."""
+    for trait, owner, body in TRAIT.findall(code):
+        text = "\n".join(GIVEN.findall(body))
+        if text:
+            yield f"{trait} for {owner}", owner, text
+
+
 def contracts(house, architecture, readme):
     """Each public call (crate, name) and each statement that README names ("README", name), with what it cites."""
     cited, shut = {}, closed_crates(architecture)
@@ -126,14 +164,18 @@ def contracts(house, architecture, readme):
         crate = place.split("/")[1]
         if file.path.suffix != ".rt" or any(fnmatch(crate, name) for name in shut):
             continue
-        types = {name: crate for name in TYPE_OF_CODE.findall("\n".join(file.lines))}
-        types |= {name: module.split("::")[0] for name, (module, _, _) in file.imports.items() if "::" in module and not module.startswith("std::")}
-        for name, text in CALL.findall("\n".join(file.lines)):
+        types = {name: module.split("::")[0] for name, (module, _, _) in file.imports.items() if "::" in module and not module.startswith("std::")}
+        types |= {name: crate for name in house.types[crate]}
+        for name, owner, text in given_of("\n".join(file.lines)):
+            if owner in types:
+                bound = {one for names in BOUND[1].findall(text) for one in names.split()}
+                cited[crate, name] = {*house.resolve(file, words(text) - bound), (types[owner], owner)}
+        for name, owner, text in calls_of("\n".join(file.lines)):
             head, ensures, contract = text.partition("ensures")
             if ensures and "requires" not in text:
                 bound = {one for names in BOUND[1].findall(contract) for one in names.split()} | set(re.findall(r"(\w+):", head))
                 cited[crate, name] = set(house.resolve(file, words(contract) - bound))
-                cited[crate, name] |= {(types[word], word) for word in re.findall(r"\w+", head) if word in types}
+                cited[crate, name] |= {(types[word], word) for word in [owner, *re.findall(r"\w+", head)] if word in types}
     named = {word for code in re.findall(r"`([^`]+)`", readme) for word in code.split() if word[0].isupper()}
     for place, file in house.specs.items():
         if not place.endswith("/Inner.antt"):

@@ -67,7 +67,7 @@ class File:
             if not code:
                 kept = bool(line) and (kept or bool(re.search(r"kept (?:for R-\d|since the port)", line)))
                 continue
-            found = IMPORT.fullmatch(code)
+            found = IMPORT.fullmatch(code.lstrip())
             if found:
                 self.add_import(number, *found.groups())
                 continue

@@ -3,7 +3,7 @@
 use mathlib.Core.Bool.{Bool, true, false, cond, not, ◌&&◌, ◌||◌, false≢true, and-eq-true_iff}
 use mathlib.Core.Logic.{◌⊎◌, inl, inr}
 use mathlib.Core.Path.{◌≡◌, refl, sym, ap₂, ◌∙◌}
-use Prim.Native.Nat.{ℕ, zero, suc, ◌+◌, ◌≤◌, ◌<◌}
+use Prim.Native.Nat.{ℕ, zero, suc, ◌≤◌, ◌<◌}
 use native.Mathlib.Omega.{arith}
 use native.Mathlib.Decide.{ℕ_discrete}
 use borrow.Author.Tests.{not-true, not-false}
@@ -96,10 +96,6 @@ all_cong (suc n) e = ap₂ ◌&&◌ (e n (omega arith)) (all_cong n (λ v l. e v
 
 pub all_fails : (n : ℕ) (p : ℕ → Bool) (v : ℕ) → v < n → p v ≡ false → all n p ≡ false
 all_fails n p v l e = not_so (all n p) (λ t. false≢true (sym e ∙ all_at n p t v l))
-
--- for a loop: it holds below j, and at j
-pub all_more : (j : ℕ) (p : ℕ → Bool) → all j p ≡ true → p j ≡ true → all (j + 1) p ≡ true
-all_more j p h e = all_of (j + 1) p (λ v l. elim (ℕ_discrete v j) [ yes q ↦ rw q e | no d ↦ all_at j p h v (omega arith) ])
 
 -- it holds everywhere or fails somewhere
 pub all_or_not : (n : ℕ) (p : ℕ → Bool) → (all n p ≡ true) ⊎ ((v : ℕ) × (v < n) × (p v ≡ false))

@@ -5,5 +5,6 @@ pub mod NearLaws
 pub mod MildLaws
 pub mod BoolLaws
 pub mod FirstLaws
+pub mod FoundLaws
 pub mod SetsLaws
 pub mod FillLaws

@@ -1,11 +1,17 @@
 -- The rates that a chain in rows describes: an entry's own rate at its column, 0 where the row has no entry. Assumes nothing.
 use Prim.Native.Nat.{ℕ, zero, suc, ◌+◌, ◌-◌, ◌<◌, ◌≤◌}
+use mathlib.Core.Bool.{Bool}
 use mathlib.Core.Logic.{◌≢◌}
 use mathlib.Core.Path.{◌≡◌, refl, sym, ◌∙◌}
 use native.Mathlib.Decide.{ℕ_discrete, dec_lt}
 use native.Mathlib.Omega.{arith}
 use lib.ListN.{get_or}
-use borrow.Author.Tests.{eq-eqb, ne_eqb}
+use lib.Dec.{eqb}
+use borrow.Author.Tests.{eq-eqb, ne_eqb, eqb-true, eqb-false}
+use Rattle.std.specs.Prelude.{Option, Some, None}
+use Rattle.basics.specs.First.{found}
+use Rattle.basics.proofs.FirstLaws.{first_is, first_none}
+use Rattle.basics.proofs.FoundLaws.{found_some, found_none}
 use Rattle.basics.proofs.TermLaws.{Positive, sum_none, sum_only, sum_term}
 use Rattle.chain.specs.Rows.{Rows, begins, ends, column_at}
 use Rattle.chain.specs.Sound.{Sound}
@@ -103,25 +109,21 @@ module _ {c : Rows} (s : Sound c) (i : ℕ) (l : i < c.order) where
 
 -- ---- the look-up of one rate
 
--- none of row i's entries before a place stands at column j
-pub record NoneBefore (c : Rows) (i j place : ℕ) : Type 0 where
-  pub low : begins c i ≤ place
-  pub none : (p : ℕ) → begins c i ≤ p → p < place → column_at c p ≢ j
+-- whether the entry at a place stands at column j
+abbrev pub column_is : Rows → ℕ → ℕ → Bool
+column_is c j place = eqb (column_at c place) j
 
-module _ {c : Rows} (i j : ℕ) where
-  pub none_first : NoneBefore c i j (begins c i)
-  none_first = record { low = omega arith; none = λ p a b. absurd (omega arith) }
+module _ (c : Rows) (i j : ℕ) where
+  pub look_up_none : {r : Option ℕ} → begins c i ≤ ends c i → r ≡ found (column_is c j) (begins c i) (ends c i) → r ≡ None → 0 ≡ rate_in c i j
+  look_up_none l e n = sym (rate_none c i j other)
+    where
+      other : (place : ℕ) → begins c i ≤ place → place < ends c i → column_at c place ≢ j
+      other place a b = eqb-false _ _ (first_none (column_is c j) _ _ l (found_none (column_is c j) _ _ l (sym e ∙ n)) place a b)
 
-  module _ (place : ℕ) (h : NoneBefore c i j place) where
-    -- kept since the port: today the check finds what cited it
-    pub none_next : column_at c place ≢ j → NoneBefore c i j (place + 1)
-    none_next d = record { low = omega (arith, h.low); none = none }
-      where
-        none : (p : ℕ) → begins c i ≤ p → p < place + 1 → column_at c p ≢ j
-        none p a m = elim (ℕ_discrete p place) [ yes e ↦ rw e d | no e ↦ h.none p a (omega arith) ]
-
-    pub none_end : ends c i ≤ place → 0 ≡ rate_in c i j
-    none_end b = sym (rate_none c i j (λ p a m. h.none p a (omega arith)))
-
-    pub found_rate : Sound c → i < c.order → place < ends c i → column_at c place ≡ j → get_or c.rates place 0 ≡ rate_in c i j
-    found_rate s l b e = sym (rw e at (entry_rate s i l place h.low b))
+  pub look_up_some : {r : Option ℕ} (place : ℕ) → Sound c → i < c.order → r ≡ found (column_is c j) (begins c i) (ends c i) → r ≡ Some place
+      → (place < ends c i) × (get_or c.rates place 0 ≡ rate_in c i j)
+  look_up_some place s l e t =
+      let k = found_some (column_is c j) (begins c i) (ends c i) place (sym e ∙ t) in
+      let f = first_is (column_is c j) (begins c i) (ends c i) (s.starts_rule.rises i l) in
+      let own : column_at c place ≡ j = eqb-true _ _ (rw k.0 (f.found (omega (arith, k.0, k.1)))) in
+      (k.1, sym (rw own at (entry_rate s i l place (omega (arith, k.0, f.low)) k.1)))

@@ -4,14 +4,14 @@ use mathlib.Core.Bool.{true, false, ◌&&◌}
 use mathlib.Core.List.{List}
 use mathlib.Core.Path.{◌≡◌, refl, ap, ◌∙◌}
 use native.Mathlib.Omega.{arith}
-use lib.Dec.{eqb, ltb, leb}
+use lib.Dec.{eqb, leb}
 use lib.ListN.{length, get_or}
-use borrow.Author.Tests.{eq-eqb, ne_eqb, lt-ltb, le-ltb, le-leb, lt-leb, leb-true}
+use borrow.Author.Tests.{eq-eqb, ne_eqb, lt-ltb, le-ltb, le-leb, lt-leb}
 use Rattle.basics.specs.First.{first}
 use Rattle.refusal.specs.Table.{accepts, refuses, of_chain, numbered}
-use Rattle.basics.proofs.BoolLaws.{by_true, by_false, both}
+use Rattle.basics.proofs.BoolLaws.{by_true, by_false}
 use Rattle.chain.specs.Rows.{Rows}
-use Rattle.chain.specs.Rules.{order_sound, falls_at, starts_sound, entry_bad, first_bad, first_bad_row, columns_checked}
+use Rattle.chain.specs.Rules.{falls_at, starts_sound, entry_bad, first_bad, first_bad_row, columns_checked}
 use Rattle.basics.proofs.BoolLaws.{and_yes, and_no, and_no_first, and_decides, or_yes, or_yes_first, or_no, or_decides}
 
 -- ---- 3
@@ -63,8 +63,3 @@ columns_bad c row place l e q =
 pub columns_sound : (c : Rows) (row : ℕ) → c.order ≤ row → first_bad_row c ≡ row → accepts (length c.columns) ≡ columns_checked c
 unfolding columns_checked
 columns_sound c row l e = by_false _ _ (le-ltb (first_bad_row c) c.order (omega arith)) refl
-
--- ---- 1
-
-pub order_held : (n : ℕ) → order_sound n ≡ true → n ≤ 64
-order_held n h = leb-true _ _ (both (ltb 0 n) _ h).1

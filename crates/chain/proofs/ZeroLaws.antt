@@ -8,7 +8,10 @@ use lib.Dec.{ltb}
 use lib.ListN.{length, get_or}
 use borrow.Author.Tests.{eqb-true, eqb-false, ltb-true, ltb-false, lt-ltb, le-ltb}
 use Rattle.refusal.specs.Table.{accepts, refuses, of_chain, numbered}
+use Rattle.std.specs.Prelude.{Option, Some, None}
+use Rattle.basics.specs.First.{found}
 use Rattle.basics.proofs.FirstLaws.{IsFirst, first_is}
+use Rattle.basics.proofs.FoundLaws.{found_some, found_none}
 use Rattle.basics.proofs.BoolLaws.{by_true, by_false}
 use Rattle.chain.specs.Rows.{Rows, begins, ends, column_at}
 use Rattle.chain.specs.Rules.{zero_at, first_zero, ends_after, row_of, zeros_checked}
@@ -42,7 +45,7 @@ module _ (c : Rows) where
     row_search place = first_is (ends_after c.starts place) 0 c.order (omega arith)
 
     module _ (place : ℕ) (l : place < length c.columns) where
-      row_below : row_of c.order c.starts place < c.order
+      pub row_below : row_of c.order c.starts place < c.order
       row_below = go (ltb (row_of c.order c.starts place) c.order) refl
         where
           go : (b : Bool) → ltb (row_of c.order c.starts place) c.order ≡ b → row_of c.order c.starts place < c.order
@@ -76,23 +79,20 @@ module _ (c : Rows) where
           before = positive_before;
         }
 
-    -- the verdict from the place and the row that the code has found: where there is no entry of rate 0, no row ends after the place
-    module _ (place row : ℕ) (p : place ≡ first_zero c.rates) (q : row ≡ row_of c.order c.starts place) where
-      pub zeros_place : row < c.order → place < length c.rates
-      zeros_place l =
-          let e : place < ends c row = ltb-true place (ends c row) (rw q ((row_search place).found (rw q at l))) in
-          omega (arith, start_before s.starts_rule (row + 1) c.order (omega arith) (omega arith), s.starts_rule.last, s.lengths)
+    -- the verdict from what the search of the rates has found
+    pub zeros_found : {r : Option ℕ} (place row : ℕ) → r ≡ found (zero_at c.rates) 0 (length c.rates) → r ≡ Some place → row ≡ row_of c.order c.starts place
+        → refuses of_chain (numbered 14 row (column_at c place)) ≡ zeros_checked c
+    zeros_found place row e t q =
+        let k = found_some (zero_at c.rates) 0 (length c.rates) place (sym e ∙ t) in
+        rw q (zero_at_lem place k.0 k.1)
 
-      pub zeros_found : (column : ℕ) → row < c.order → column ≡ column_at c place → refuses of_chain (numbered 14 row column) ≡ zeros_checked c
-      zeros_found column l e = rw (e, q) (zero_at_lem place p (zeros_place l))
+  pub zeros_place : {r : Option ℕ} (place : ℕ) → r ≡ found (zero_at c.rates) 0 (length c.rates) → r ≡ Some place → place < length c.rates
+  zeros_place place e t = (found_some (zero_at c.rates) 0 (length c.rates) place (sym e ∙ t)).1
 
-      pub zeros_none : c.order ≤ row → accepts (length c.columns) ≡ zeros_checked c
-      zeros_none l = go (ltb place (length c.rates)) refl
-        where
-          go : (b : Bool) → ltb place (length c.rates) ≡ b → accepts (length c.columns) ≡ zeros_checked c
-          go true t = absurd (omega (arith, row_below place (omega (arith, ltb-true place (length c.rates) t, s.lengths))))
-          go false t = zero_nowhere place p (ltb-false place (length c.rates) t)
+  pub zeros_none : {r : Option ℕ} → r ≡ found (zero_at c.rates) 0 (length c.rates) → r ≡ None → accepts (length c.columns) ≡ zeros_checked c
+  zeros_none e t = zero_nowhere _ refl (omega (arith, found_none (zero_at c.rates) 0 (length c.rates) (omega arith) (sym e ∙ t)))
 
+  module _ (s : Sound c) where
     -- what the verdict says of the rates holds
     pub zeros_say : Says c (zeros_checked c)
     unfolding zeros_checked
@@ -102,7 +102,7 @@ module _ (c : Rows) where
             → Says c
             (cond b (refuses of_chain (numbered 14 (row_of c.order c.starts (first_zero c.rates)) (column_at c (first_zero c.rates))))
             (accepts (length c.columns)))
-        go true t = rate_zero s (first_zero_lem (ltb-true _ _ t))
+        go true t = rate_zero s (first_zero_lem s (ltb-true _ _ t))
         go false t = all_hold (record { sound = s; positive = none_zero (ltb-false _ _ t) })
 
     -- ---- there is only one first entry of rate 0
@@ -111,8 +111,8 @@ module _ (c : Rows) where
       place_within : place < length c.rates
       place_within = omega (arith, h.to, start_before s.starts_rule (row + 1) c.order (omega (arith, h.row_below)) (omega arith), s.starts_rule.last, s.lengths)
 
-      found : first_zero c.rates < length c.rates
-      found = go (ltb (first_zero c.rates) (length c.rates)) refl
+      there : first_zero c.rates < length c.rates
+      there = go (ltb (first_zero c.rates) (length c.rates)) refl
         where
           go : (b : Bool) → ltb (first_zero c.rates) (length c.rates) ≡ b → first_zero c.rates < length c.rates
           go true t = ltb-true _ _ t
@@ -127,7 +127,7 @@ module _ (c : Rows) where
 
     pub first_zero_is : {row place : ℕ} → FirstZero c row place → refuses of_chain (numbered 14 row (column_at c place)) ≡ zeros_checked c
     first_zero_is {row} {place} h =
-        let k = first_zero_lem (found h) in
+        let k = first_zero_lem s (there h) in
         let e : place ≡ first_zero c.rates = omega (arith, not_left h k, not_left k h) in
         let q : row ≡ row_of c.order c.starts (first_zero c.rates) = omega (arith, not_lower h k (sym e), not_lower k h e) in
         let q' : row ≡ row_of c.order c.starts place = q ∙ ap (row_of c.order c.starts) (sym e) in

@@ -1,249 +1,211 @@
 // The first pass of a reading: every refusal of the bytes, and whether slices have room (internal).
 #![tactic(auto)]
 
-ghost use Rattle.std.specs.Prelude.{◌≡◌, ◌+◌, ◌*◌, ◌/◌, ◌<◌, ◌≤◌, length};
+ghost use Rattle.std.specs.Prelude.{◌≡◌, ◌+◌, ◌*◌, ◌/◌, ◌<◌, ◌≤◌, length, count_by};
+ghost use Rattle.std.specs.List.{range_with_len};
+ghost use Rattle.basics.specs.First.{found};
 ghost use Rattle.refusal.specs.Table.{verdict};
-ghost use Rattle.chain.specs.Rules.{order_sound};
-ghost use Rattle.layout.specs.Bytes.{map_bytes, maps_of, marked, stored_count, stored_columns};
-ghost use Rattle.file_rules.specs.Verdict.{bad_bit, first_bad_bit, loose_bit, first_loose_bit, marks_checked, same, mark_checked};
+ghost use Rattle.layout.specs.Bytes.{map_bytes, maps_of, marked, bit_at, stored_columns};
+ghost use Rattle.file_rules.specs.Verdict.{bad_bit, loose_bit, marks_checked, mark_checked};
 ghost use Rattle.file_rules.specs.Verdict.{rate_checked, rates_checked, row_checked, rows_checked, file_checked, room_to_read};
 
-use layout::{Form, bit_at, form_in, is_marked, is_short, maps_of, order_in, rate_at, width_of};
-use refusal::{BytesReason, Outcome, Refusal};
-
-// Bit j of a row's map stands where none may.
-fn bad_bit(bytes: &[u8], n: usize, row: usize, map: usize, j: usize) -> bool
-    requires { map + j / 8 < length bytes.now }
-    ensures { result ≡ bad_bit bytes.now n row map j }
-{
-    if bit_at(bytes, map, j) {
-        return j == row || n <= j;
-    }
-    false
-}
-
-// The lowest bit of a row's map that stands where none may, or the number of the map's bits.
-fn first_bad_bit(bytes: &[u8], n: usize, row: usize, map: usize) -> usize
-    requires { (n ≤ 64) × (map + map_bytes n ≤ length bytes.now) }
-    ensures { (result ≡ first_bad_bit bytes.now n row map) × (result ≤ 8 * map_bytes n) }
-{
-    let end = 8 * ((n + 7) / 8);
-    let mut j = 0;
-    while j < end {
-        if bad_bit(bytes, n, row, map, j) {
-            return j;
-        }
-        j += 1;
-    }
-    j
-}
-
-// How many of the first n bits of a map stand.
-fn count_bits(bytes: &[u8], n: usize, map: usize) -> usize
-    requires { (n ≤ 64) × (map + map_bytes n ≤ length bytes.now) }
-    ensures { result ≡ stored_count bytes.now n map }
-{
-    let mut k = 0;
-    let mut j = 0;
-    while j < n {
-        if bit_at(bytes, map, j) {
-            k += 1;
-        }
-        j += 1;
-    }
-    k
-}
-
-// A bit of a row's second map stands where the first has none.
-fn loose_bit(bytes: &[u8], n: usize, map: usize, j: usize) -> bool
-    requires { (n ≤ 64) × (map + map_bytes n + j / 8 < length bytes.now) }
-    ensures { result ≡ loose_bit bytes.now n map j }
-{
-    if bit_at(bytes, map + (n + 7) / 8, j) {
-        return !bit_at(bytes, map, j);
-    }
-    false
-}
-
-// The lowest bit of a row's second map that has no rate, or the number of the map's bits.
-fn first_loose_bit(bytes: &[u8], n: usize, map: usize) -> usize
-    requires { (n ≤ 64) × (map + (map_bytes n + map_bytes n) ≤ length bytes.now) }
-    ensures { (result ≡ first_loose_bit bytes.now n map) × (result ≤ 8 * map_bytes n) }
-{
-    let end = 8 * ((n + 7) / 8);
-    let mut j = 0;
-    while j < end {
-        if loose_bit(bytes, n, map, j) {
-            return j;
-        }
-        j += 1;
-    }
-    j
-}
-
-// The second map of a row, which form 1 does not have: the place at which the rates begin.
-fn check_marks(bytes: &[u8], form: Form, n: usize, row: usize, map: usize) -> Outcome
-    requires { (n ≤ 64) × (map + map_bytes n ≤ length bytes.now) }
-    ensures { verdict result ≡ marks_checked form bytes.now n row map }
-{
-    let width = (n + 7) / 8;
-    match form {
-        Form::One => Outcome::Done(map + width),
-        Form::Two => {
-            if bytes.len() - map < width + width {
-                return Outcome::Refused(Refusal::Bytes(BytesReason::Short));
-            }
-            let bit = first_loose_bit(bytes, n, map);
-            if bit < 8 * width {
-                return Outcome::Refused(Refusal::Bytes(BytesReason::Mark(row, bit)));
-            }
-            Outcome::Done(map + (width + width))
-        }
-    }
-}
-
-// Whether two tests agree.
-fn agree(first: bool, second: bool) -> bool
-    ensures { result ≡ same first second }
-{
-    if first {
-        return second;
-    }
-    !second
-}
+use chain::order_sound;
+use layout::{
+    Form, bit_at, form_in, is_marked, is_short, map_bytes, maps_of, order_in, rate_at, width_of,
+};
+use refusal::{BytesReason, Refusal};
 
 // The mark of a rate against its size: the place after the rate.
-fn check_mark(form: Form, row: usize, column: usize, mark: bool, rate: u32, next: usize) -> Outcome
-    ensures { verdict result ≡ mark_checked form row column mark rate next }
-{
-    if agree(mark, is_short(form, rate)) {
-        return Outcome::Done(next);
-    }
-    Outcome::Refused(Refusal::Bytes(BytesReason::Mark(row, column)))
-}
-
-// The rate of a row's column, from a place on: the place after it. What is asked of a single rate as it is read stands here.
-fn check_rate(
-    bytes: &[u8],
-    zeros: bool,
+fn check_mark(
     form: Form,
     row: usize,
     column: usize,
     mark: bool,
-    place: usize,
-) -> Outcome
-    requires { place ≤ length bytes.now }
-    ensures { verdict result ≡ rate_checked zeros form bytes.now row column mark place }
+    rate: u32,
+    next: usize,
+) -> Result<usize, Refusal>
+    ensures { verdict result ≡ mark_checked form row column mark rate next }
 {
-    let width = width_of(mark);
-    if bytes.len() - place < width {
-        return Outcome::Refused(Refusal::Bytes(BytesReason::Short));
+    if mark == is_short(form, rate) {
+        return Ok(next);
     }
-    let rate = rate_at(bytes, mark, place);
-    if zeros || 0 < rate {
-        return check_mark(form, row, column, mark, rate, place + width);
-    }
-    Outcome::Refused(Refusal::Bytes(BytesReason::ZeroRate(row, column)))
+    Err(Refusal::Bytes(BytesReason::Mark(row, column)))
 }
 
-// The rates of a row: the place after them.
-fn check_rates(bytes: &[u8], zeros: bool, form: Form, n: usize, row: usize, map: usize) -> Outcome
-    requires { (n ≤ 64) × (map + maps_of form n ≤ length bytes.now) }
-    ensures { verdict result ≡ rates_checked zeros form bytes.now row (marked form bytes.now n map) (stored_columns bytes.now n map) (map + maps_of form n) }
-{
-    let mut place = map + maps_of(form, n);
-    let mut j = 0;
-    while j < n {
-        if bit_at(bytes, map, j) {
-            let mark = is_marked(bytes, form, n, map, j);
-            let answer = check_rate(bytes, zeros, form, row, j, mark, place);
-            let Outcome::Done(next) = answer else {
-                return answer;
-            };
-            place = next;
+// A file whose first byte tells its form and an order of at most 64, and whether rates of 0 are taken.
+#[derive(Clone, Copy)]
+struct File<'a> {
+    bytes: &'a [u8],
+    zeros: bool,
+    form: Form,
+    order: usize,
+    ghost few: { order ≤ 64 },
+}
+
+impl File<'_> {
+    // Bit j of a row's map stands where none may.
+    fn bad_bit(self, row: usize, map: usize, j: usize) -> bool
+        requires { map + j / 8 < length self.bytes.now }
+        ensures { result ≡ bad_bit self.entry.bytes.now self.entry.order row map j }
+    {
+        let n = self.order;
+        bit_at(self.bytes, map, j) && (j == row || n <= j)
+    }
+
+    // The lowest bit of a row's map that stands where none may.
+    fn first_bad_bit(self, row: usize, map: usize) -> Option<usize>
+        requires { map + map_bytes self.order ≤ length self.bytes.now }
+        ensures { result ≡ found (bad_bit self.entry.bytes.now self.entry.order row map) 0 (8 * map_bytes self.entry.order) }
+    {
+        (0..8 * map_bytes(self.order)).find(|&j| self.bad_bit(row, map, j))
+    }
+
+    // How many entries a row has.
+    fn count_entries(self, map: usize) -> usize
+        requires { map + map_bytes self.order ≤ length self.bytes.now }
+        ensures { result ≡ count_by (bit_at self.entry.bytes.now map) (range_with_len 0 self.entry.order) }
+    {
+        (0..self.order)
+            .filter(|&j| bit_at(self.bytes, map, j))
+            .count()
+    }
+
+    // A bit of a row's second map stands where the first has none.
+    fn loose_bit(self, map: usize, j: usize) -> bool
+        requires { map + map_bytes self.order + j / 8 < length self.bytes.now }
+        ensures { result ≡ loose_bit self.entry.bytes.now self.entry.order map j }
+    {
+        bit_at(self.bytes, map + map_bytes(self.order), j) && !bit_at(self.bytes, map, j)
+    }
+
+    // The lowest bit of a row's second map that has no rate.
+    fn first_loose_bit(self, map: usize) -> Option<usize>
+        requires { map + (map_bytes self.order + map_bytes self.order) ≤ length self.bytes.now }
+        ensures { result ≡ found (loose_bit self.entry.bytes.now self.entry.order map) 0 (8 * map_bytes self.entry.order) }
+    {
+        (0..8 * map_bytes(self.order)).find(|&j| self.loose_bit(map, j))
+    }
+
+    // The second map of a row, which form 1 does not have: the place at which the rates begin.
+    fn check_marks(self, row: usize, map: usize) -> Result<usize, Refusal>
+        requires { map ≤ length self.bytes.now }
+        ensures { verdict result ≡ marks_checked self.entry.form self.entry.bytes.now self.entry.order row map }
+    {
+        let maps = maps_of(self.form, self.order);
+        match self.form {
+            Form::One => Ok(map + maps),
+            Form::Two => {
+                if self.bytes.len() - map < maps {
+                    return Err(Refusal::Bytes(BytesReason::Short));
+                }
+                if let Some(bit) = self.first_loose_bit(map) {
+                    return Err(Refusal::Bytes(BytesReason::Mark(row, bit)));
+                }
+                Ok(map + maps)
+            }
         }
-        j += 1;
     }
-    Outcome::Done(place)
-}
 
-// One row, whose map begins at a place: the place after it.
-fn check_row(bytes: &[u8], zeros: bool, form: Form, n: usize, row: usize, map: usize) -> Outcome
-    requires { (n ≤ 64) × (map ≤ length bytes.now) }
-    ensures { verdict result ≡ row_checked zeros form bytes.now n row map }
-{
-    let width = (n + 7) / 8;
-    if bytes.len() - map < width {
-        return Outcome::Refused(Refusal::Bytes(BytesReason::Short));
+    // The rate of a row's column, from a place on: the place after it. What is asked of a single rate as it is read stands here.
+    fn check_rate(
+        self,
+        row: usize,
+        column: usize,
+        mark: bool,
+        place: usize,
+    ) -> Result<usize, Refusal>
+        requires { place ≤ length self.bytes.now }
+        ensures { verdict result ≡ rate_checked self.entry.zeros self.entry.form self.entry.bytes.now row column mark place }
+    {
+        let width = width_of(mark);
+        if self.bytes.len() - place < width {
+            return Err(Refusal::Bytes(BytesReason::Short));
+        }
+        let rate = rate_at(self.bytes, mark, place);
+        if self.zeros || 0 < rate {
+            return check_mark(self.form, row, column, mark, rate, place + width);
+        }
+        Err(Refusal::Bytes(BytesReason::ZeroRate(row, column)))
     }
-    let bit = first_bad_bit(bytes, n, row, map);
-    if bit < 8 * width {
-        return Outcome::Refused(Refusal::Bytes(BytesReason::Bit(row, bit)));
-    }
-    let answer = check_marks(bytes, form, n, row, map);
-    let Outcome::Done(_) = answer else {
-        return answer;
-    };
-    check_rates(bytes, zeros, form, n, row, map)
-}
 
-// All rows, and nothing after them: the number of entries.
-fn check_rows(bytes: &[u8], zeros: bool, form: Form, n: usize) -> Outcome
-    requires { (n ≤ 64) × (1 ≤ length bytes.now) }
-    ensures { verdict result ≡ rows_checked zeros form bytes.now n n 0 1 0 }
-{
-    let mut row = 0;
-    let mut map = 1;
-    let mut e = 0;
-    while row < n {
-        let answer = check_row(bytes, zeros, form, n, row, map);
-        let Outcome::Done(next) = answer else {
-            return answer;
-        };
-        e = e + count_bits(bytes, n, map);
-        map = next;
-        row += 1;
+    // The rates of a row: the place after them.
+    fn check_rates(self, row: usize, map: usize) -> Result<usize, Refusal>
+        requires { map + maps_of self.form self.order ≤ length self.bytes.now }
+        ensures { verdict result ≡ rates_checked self.entry.zeros self.entry.form self.entry.bytes.now row
+            (marked self.entry.form self.entry.bytes.now self.entry.order map)
+            (stored_columns self.entry.bytes.now self.entry.order map) (map + maps_of self.entry.form self.entry.order) }
+    {
+        let mut place = map + maps_of(self.form, self.order);
+        for j in 0..self.order {
+            if bit_at(self.bytes, map, j) {
+                let mark = is_marked(self.bytes, self.form, self.order, map, j);
+                place = self.check_rate(row, j, mark, place)?;
+            }
+        }
+        Ok(place)
     }
-    if map != bytes.len() {
-        return Outcome::Refused(Refusal::Bytes(BytesReason::Extra));
-    }
-    Outcome::Done(e)
-}
 
-// Whether an order is 1 to 64.
-fn order_sound(n: usize) -> bool
-    ensures { result ≡ order_sound n }
-{
-    if 0 < n {
-        return n <= 64;
+    // One row, whose map begins at a place: the place after it.
+    fn check_row(self, row: usize, map: usize) -> Result<usize, Refusal>
+        requires { map ≤ length self.bytes.now }
+        ensures { verdict result ≡ row_checked self.entry.zeros self.entry.form self.entry.bytes.now self.entry.order row map }
+    {
+        let width = map_bytes(self.order);
+        if self.bytes.len() - map < width {
+            return Err(Refusal::Bytes(BytesReason::Short));
+        }
+        if let Some(bit) = self.first_bad_bit(row, map) {
+            return Err(Refusal::Bytes(BytesReason::Bit(row, bit)));
+        }
+        self.check_marks(row, map)?;
+        self.check_rates(row, map)
     }
-    false
+
+    // All rows, and nothing after them: the number of entries.
+    fn check_rows(self) -> Result<usize, Refusal>
+        requires { 1 ≤ length self.bytes.now }
+        ensures { verdict result ≡ rows_checked self.entry.zeros self.entry.form self.entry.bytes.now self.entry.order self.entry.order 0 1 0 }
+    {
+        let mut map = 1;
+        let mut entries = 0;
+        for row in 0..self.order {
+            let next = self.check_row(row, map)?;
+            entries += self.count_entries(map);
+            map = next;
+        }
+        if map != self.bytes.len() {
+            return Err(Refusal::Bytes(BytesReason::Extra));
+        }
+        Ok(entries)
+    }
 }
 
 // All that is asked of the bytes themselves, rates of 0 being taken or not: the number of entries.
-pub fn check_file(bytes: &[u8], zeros: bool) -> Outcome
+pub fn check_file(bytes: &[u8], zeros: bool) -> Result<usize, Refusal>
     ensures { verdict result ≡ file_checked zeros bytes.now }
 {
-    if bytes.len() == 0 {
-        return Outcome::Refused(Refusal::Bytes(BytesReason::Short));
+    if bytes.is_empty() {
+        return Err(Refusal::Bytes(BytesReason::Short));
     }
     let first = bytes[0] as usize;
-    let n = order_in(first);
-    if !order_sound(n) {
-        return Outcome::Refused(Refusal::Bytes(BytesReason::Order));
+    let form = form_in(first);
+    let order = order_in(first);
+    let sound = order_sound(order);
+    if !sound {
+        return Err(Refusal::Bytes(BytesReason::Order));
     }
-    check_rows(bytes, zeros, form_in(first), n)
+    File {
+        bytes,
+        zeros,
+        form,
+        order,
+    }
+    .check_rows()
 }
 
 // Whether slices of these lengths hold a chain of order n with e entries.
 pub fn room_for(n: usize, e: usize, starts: usize, columns: usize, rates: usize) -> bool
     ensures { result ≡ room_to_read n e starts columns rates }
 {
-    if n < starts {
-        if e <= columns {
-            return e <= rates;
-        }
-        return false;
-    }
-    false
+    n < starts && e <= columns && e <= rates
 }

@@ -7,20 +7,20 @@ use lib.ListN.{length, take}
 use lib.Seq.{sets}
 use Rattle.basics.proofs.SetsLaws.{take_sets}
 use Rattle.chain.specs.Rows.{Rows, rows}
+use Rattle.chain.specs.Sound.{Sound}
 use Rattle.chain.proofs.SoundLaws.{start_within}
 use Rattle.cleaned.specs.Cleaned.{new_place, cleaned}
 use Rattle.cleaned.specs.Inner.{PutStarts, KeptPut, Clean, Cleans}
 use Rattle.cleaned.proofs.CleanedLaws.{cleaned_fewer, cleaned_sound}
 
 module _ {c : Rows} {starts columns rates : List ℕ} where
-  pub asks : Clean c starts columns rates → PutStarts c.order c.starts c.rates starts
-  asks a =
-      let s = a.sound.starts_rule in
+  pub asks : Sound c → Clean c starts columns rates → PutStarts c.starts c.rates starts
+  asks sound a =
+      let s = sound.starts_rule in
       record {
-        count = s.count;
-        rises = s.rises;
-        within = λ row l. omega (arith, start_within s row l, a.sound.lengths);
-        room = a.starts_fit;
+        rises = λ row l. s.rises row (omega (arith, s.count));
+        within = λ row l. omega (arith, start_within s row (omega (arith, s.count)), sound.lengths);
+        room = omega (arith, s.count, a.starts_fit);
       }
 
   module _ {starts' columns' rates' : List ℕ} {r : ℕ} where
@@ -30,11 +30,11 @@ module _ {c : Rows} {starts columns rates : List ℕ} where
     done e f g = record { count = g.count; starts_are = e; columns_are = g.out_is; rates_are = f.out_is }
 
     -- the chain that stands at the beginning of the slices
-    pub cleaned_in : Clean c starts columns rates → Cleans c starts columns rates r starts' columns' rates'
+    pub cleaned_in : Sound c → Clean c starts columns rates → Cleans c starts columns rates r starts' columns' rates'
         → rows c.order (take (c.order + 1) starts') (take r columns') (take r rates') ≡ cleaned c
     unfolding cleaned
-    cleaned_in a d =
-        let s = cleaned_sound a.sound in
+    cleaned_in sound a d =
+        let s = cleaned_sound sound in
         let k = length (cleaned c).columns in
         let few : k ≤ length c.columns = cleaned_fewer c in
         rw (

@@ -2,7 +2,6 @@
 use Rattle.std.specs.Prelude.{ℕ, ◌+◌, ◌<◌, ◌≤◌, List, ◌≡◌, length, get_or}
 use Rattle.std.proofs.lemmas.List.Edits.{sets}
 use Rattle.chain.specs.Rows.{Rows}
-use Rattle.chain.specs.Sound.{Sound}
 use Rattle.cleaned.specs.Cleaned.{kept, cleaned}
 
 -- what stands where the rate is not 0 is put from the first place on
@@ -14,16 +13,14 @@ pub record KeptPut (values rates out : List ℕ) (r : ℕ) (out' : List ℕ) : T
   pub count : r ≡ length (kept values rates)
   pub out_is : out' ≡ sets out 0 (kept values rates)
 
--- n + 1 starts are counted again
-pub record PutStarts (n : ℕ) (starts rates out : List ℕ) : Type 0 where
-  pub count : length starts ≡ n + 1
-  pub rises : (row : ℕ) → row < n → get_or starts row 0 ≤ get_or starts (row + 1) 0
-  pub within : (row : ℕ) → row ≤ n → get_or starts row 0 ≤ length rates
-  pub room : n + 1 ≤ length out
+-- the starts are counted again
+pub record PutStarts (starts rates out : List ℕ) : Type 0 where
+  pub rises : (row : ℕ) → row + 1 < length starts → get_or starts row 0 ≤ get_or starts (row + 1) 0
+  pub within : (row : ℕ) → row < length starts → get_or starts row 0 ≤ length rates
+  pub room : length starts ≤ length out
 
 -- three slices have room for any chain with the order and the entries of a sound one
 pub record Clean (c : Rows) (starts columns rates : List ℕ) : Type 0 where
-  pub sound : Sound c
   pub starts_fit : c.order + 1 ≤ length starts
   pub columns_fit : length c.columns ≤ length columns
   pub rates_fit : length c.columns ≤ length rates

@@ -1,41 +1,33 @@
 // A chain without its entries of rate 0, put into second slices.
 #![tactic(auto)]
 
-ghost use Rattle.std.specs.Prelude.{map, ◌≡◌};
+ghost use Rattle.std.specs.Prelude.{map, ltb, count_by, ◌≡◌};
 ghost use Rattle.std.proofs.lemmas.List.Edits.{sets};
-ghost use Rattle.chain.specs.Rows.{in_rows};
-ghost use Rattle.cleaned.specs.Cleaned.{positives, new_place};
+ghost use Rattle.chain.specs.Rows.{rows_of};
+ghost use Rattle.cleaned.specs.Cleaned.{new_place};
 ghost use Rattle.cleaned.specs.Inner.{PutKept, KeptPut, PutStarts, Clean, Cleans};
+
+use chain::SoundChain;
 
 // How many of these rates are positive.
 fn count_positive(rates: &[u32]) -> usize
-    ensures { result ≡ positives rates.now }
+    ensures { result ≡ count_by (λ rate. ltb 0 rate) rates.now }
 {
-    let mut i = 0;
-    let mut count = 0;
-    while i < rates.len() {
-        if 0 < rates[i] {
-            count += 1;
-        }
-        i += 1;
-    }
-    count
+    rates.iter().filter(|&&rate| 0 < rate).count()
 }
 
 // Each start counts the positive rates before it; every rate is looked at once.
-fn put_starts(n: usize, starts: &[u32], rates: &[u32], out: &mut [u32])
-    requires { PutStarts n starts.now rates.now out.old }
+fn put_starts(starts: &[u32], rates: &[u32], out: &mut [u32])
+    requires { PutStarts starts.now rates.now out.old }
     ensures { out.new ≡ sets out.old 0 (map (new_place rates.now) starts.now) }
 {
-    let mut row = 0;
     let mut p = 0;
     let mut count = 0;
-    while row <= n {
-        let start = starts[row] as usize;
+    for (row, &next) in starts.iter().enumerate() {
+        let start = next as usize;
         count += count_positive(&rates[p..start]);
         out[row] = count as u32;
         p = start;
-        row += 1;
     }
 }
 
@@ -44,34 +36,30 @@ fn put_kept(values: &[u32], rates: &[u32], out: &mut [u32]) -> usize
     requires { PutKept values.now rates.now out.old }
     ensures { KeptPut values.now rates.now out.old result out.new }
 {
-    let mut p = 0;
     let mut q = 0;
-    while p < rates.len() {
-        if 0 < rates[p] {
+    for (p, &rate) in rates.iter().enumerate() {
+        if 0 < rate {
             out[q] = values[p];
             q += 1;
         }
-        p += 1;
     }
     q
 }
 
-// The chain without its entries of rate 0, put into the front of three slices: the number of its entries.
+// The chain without its entries of rate 0, put into the front of three slices: the number of its entries. They are
+// parameters and no struct, as where a chain is read (`storage`).
 pub fn clean_chain(
-    n: usize,
-    starts: &[u32],
-    columns: &[u32],
-    rates: &[u32],
-    starts2: &mut [u32],
-    columns2: &mut [u32],
-    rates2: &mut [u32],
+    sound: SoundChain,
+    starts: &mut [u32],
+    columns: &mut [u32],
+    rates: &mut [u32],
 ) -> usize
-    requires { Clean (in_rows n starts columns rates) starts2.old columns2.old rates2.old }
-    ensures { Cleans (in_rows n starts.entry columns.entry rates.entry)
-        starts2.old columns2.old rates2.old
-        result starts2.new columns2.new rates2.new }
+    requires { Clean (rows_of sound.chain) starts.old columns.old rates.old }
+    ensures { Cleans (rows_of sound.entry.chain) starts.old columns.old rates.old
+        result starts.new columns.new rates.new }
 {
-    put_starts(n, starts, rates, starts2);
-    put_kept(rates, rates, rates2);
-    put_kept(columns, rates, columns2)
+    let chain = sound.chain;
+    put_starts(chain.starts, chain.rates, starts);
+    put_kept(chain.rates, chain.rates, rates);
+    put_kept(chain.columns, chain.rates, columns)
 }

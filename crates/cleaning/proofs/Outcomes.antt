@@ -2,7 +2,7 @@
 use Prim.Native.Nat.{ℕ, ◌+◌, ◌≤◌, ◌<◌}
 use mathlib.Core.List.{List}
 use mathlib.Core.Logic.{◌≢◌}
-use mathlib.Core.Path.{◌≡◌, refl, sym, ap, subst}
+use mathlib.Core.Path.{◌≡◌, refl, sym, ap, subst, ◌∙◌}
 use native.Mathlib.Omega.{arith}
 use borrow.Author.Tests.{le-leb, lt-leb}
 use lib.ListN.{length, get_or, take}
@@ -18,7 +18,7 @@ use Rattle.layout.specs.File.{file_of, longest_file, enough_bytes}
 use Rattle.file_rules.specs.Sound.{zeros_taken}
 use Rattle.file_rules.specs.Verdict.{file_checked}
 use Rattle.storage.specs.declared.Reading.{Reading}
-use Rattle.storage.specs.declared.Reading.TheVariants as reading
+use Rattle.std.specs.Prelude.{Result, Ok, Err}
 use Rattle.storage.specs.Reading.{told, Stored, Read}
 use Rattle.storage.proofs.RoundTrips.{file_refused}
 use Rattle.storage.proofs.ZeroRates.{never_14}
@@ -67,33 +67,34 @@ module _ (bytes : List ℕ) (small : (i : ℕ) → get_or bytes i 0 < 256) where
   }
 
 -- a reading into slices that have room for every chain
-module _ {bytes : List ℕ} {old new : Buffers} {r : Reading} (d : Read zeros_taken bytes old r new)
+module _ {bytes : List ℕ} {old new : Buffers} {r : Result Reading Refusal} (d : Read zeros_taken bytes old r new)
     (a : length old.starts ≡ most_starts) (b : length old.columns ≡ most_entries) (c : length old.rates ≡ most_entries) where
-  pub unread_output : {f : Refusal} → r ≡ reading.Refused f → refused_line (line f) ≡ clean_of bytes
+  pub unread_output : {f : Refusal} → r ≡ Err f → refused_line (line f) ≡ clean_of bytes
   unfolding clean_of
   unread_output q = rw (file_refused d a b c q)
 
-  module _ {n entries : ℕ} {form : Form} (q : r ≡ reading.Chain n entries form) where
-    left : Stored zeros_taken form (chain_in new n entries) entries bytes
-    left = d.stored n entries form (ap told q)
+  module _ {reading : Reading} (q : r ≡ Ok reading) where
+    left : Stored zeros_taken reading.form (chain_in new reading.order reading.entries) reading.entries bytes
+    left = d.stored _ _ _ (ap told q)
 
-    pub chain_sound : Sound (chain_in new n entries)
-    chain_sound = rules_sound (chain_in new n entries) left.passes
+    module _ {chain : Rows} (e : chain ≡ chain_in new reading.order reading.entries) where
+      pub chain_sound : Sound chain
+      chain_sound = rw e (rules_sound (chain_in new reading.order reading.entries) left.passes)
 
-    pub read_output : file_of form (cleaned (chain_in new n entries)) ≡ clean_of bytes
-    unfolding clean_of
-    read_output = rw (left.accepted, left.chain, left.its_form)
+      pub read_output : file_of reading.form (cleaned chain) ≡ clean_of bytes
+      unfolding clean_of
+      read_output = rw (e, left.accepted, left.chain, left.its_form)
 
 -- ---- a chain that was cleaned into second slices
 
-module _ {c : Rows} {starts columns rates starts' columns' rates' : List ℕ} {kept : ℕ} (a : Clean c starts columns rates)
+module _ {c : Rows} {starts columns rates starts' columns' rates' : List ℕ} {kept : ℕ} (sound : Sound c) (a : Clean c starts columns rates)
     (d : Cleans c starts columns rates kept starts' columns' rates') where
   pub kept_low : kept ≤ length c.columns
   kept_low = omega (arith, d.count, cleaned_fewer c)
 
   pub kept_accepted : Accepted (rows c.order (take (c.order + 1) starts') (take kept columns') (take kept rates'))
-  kept_accepted = subst Accepted (sym (cleaned_in a d)) (cleaned_accepted a.sound)
+  kept_accepted = subst Accepted (sym (cleaned_in sound a d)) (cleaned_accepted sound)
 
-  pub kept_put : (form : Form) {out out' : List ℕ} {r : ℕ} → Puts out 0 (file_of form (rows c.order (take (c.order + 1) starts') (take kept columns') (take kept rates'))) out' r
-      → Puts out 0 (file_of form (cleaned c)) out' r
-  kept_put form {out} {out'} {r} f = subst (λ (x : Rows). Puts out 0 (file_of form x) out' r) (cleaned_in a d) f
+  pub kept_put : (form : Form) {chain : Rows} {out out' : List ℕ} {r : ℕ} → chain ≡ rows c.order (take (c.order + 1) starts') (take kept columns') (take kept rates')
+      → Puts out 0 (file_of form chain) out' r → Puts out 0 (file_of form (cleaned c)) out' r
+  kept_put form {out = out} {out' = out'} {r = r} e f = subst (λ (x : Rows). Puts out 0 (file_of form x) out' r) (e ∙ cleaned_in sound a d) f

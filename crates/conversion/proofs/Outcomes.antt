@@ -17,7 +17,7 @@ use Rattle.layout.specs.File.{file_of, longest_file, enough_bytes}
 use Rattle.file_rules.specs.Sound.{zeros_refused}
 use Rattle.file_rules.specs.Verdict.{file_checked}
 use Rattle.storage.specs.declared.Reading.{Reading}
-use Rattle.storage.specs.declared.Reading.TheVariants as reading
+use Rattle.std.specs.Prelude.{Result, Ok, Err}
 use Rattle.storage.specs.Reading.{told, Stored, Read}
 use Rattle.storage.proofs.RoundTrips.{file_refused}
 use Rattle.decimal.specs.Put.{Puts}
@@ -57,20 +57,21 @@ module _ (bytes : List ℕ) (small : (i : ℕ) → get_or bytes i 0 < 256) where
   }
 
 -- a reading into slices that have room for every chain
-module _ {bytes : List ℕ} {old new : Buffers} {r : Reading} (d : Read zeros_refused bytes old r new)
+module _ {bytes : List ℕ} {old new : Buffers} {r : Result Reading Refusal} (d : Read zeros_refused bytes old r new)
     (a : length old.starts ≡ most_starts) (b : length old.columns ≡ most_entries) (c : length old.rates ≡ most_entries) where
-  pub unread_output : {f : Refusal} → r ≡ reading.Refused f → refused_line (line f) ≡ convert_of bytes
+  pub unread_output : {f : Refusal} → r ≡ Err f → refused_line (line f) ≡ convert_of bytes
   unfolding convert_of
   unread_output q = rw (file_refused d a b c q)
 
-  module _ {n entries : ℕ} {form : Form} (q : r ≡ reading.Chain n entries form) where
-    left : Stored zeros_refused form (chain_in new n entries) entries bytes
-    left = d.stored n entries form (ap told q)
+  module _ {reading : Reading} (q : r ≡ Ok reading) where
+    left : Stored zeros_refused reading.form (chain_in new reading.order reading.entries) reading.entries bytes
+    left = d.stored _ _ _ (ap told q)
 
-    pub chain_accepted : Accepted (chain_in new n entries)
-    chain_accepted = accepted_whole (chain_in new n entries) left.passes
+    module _ {chain : Rows} (e : chain ≡ chain_in new reading.order reading.entries) where
+      pub chain_accepted : Accepted chain
+      chain_accepted = rw e (accepted_whole (chain_in new reading.order reading.entries) left.passes)
 
-    -- in the form that the code calls the other
-    pub read_output : (f : Form) → f ≡ other form → file_of f (chain_in new n entries) ≡ convert_of bytes
-    unfolding convert_of
-    read_output f p = rw left.accepted (ap₂ (λ (g : Form) (x : Rows). file_of g x) (p ∙ ap other (sym left.its_form)) (sym left.chain))
+      -- in the form that the code calls the other
+      pub read_output : (f : Form) → f ≡ other reading.form → file_of f chain ≡ convert_of bytes
+      unfolding convert_of
+      read_output f p = rw (left.accepted, e) (ap₂ (λ (g : Form) (x : Rows). file_of g x) (p ∙ ap other (sym left.its_form)) (sym left.chain))

@@ -3,14 +3,11 @@
 #![tactic(auto)]
 
 fn main(rt: HostRuntime) {
-    let mut input = input::buffer();
-    let mut output = filing::file_buffer();
-    let Ok(count) = input::read_input(&mut rt.stdin(), &mut input) else {
-        let _ = eprintln!(rt; "convert: could not read standard input");
-        return;
-    };
-    let n = conversion::convert(&input[..count], &mut output);
-    if rt.write_all(&output[..n]).is_err() {
-        let _ = eprintln!(rt; "convert: could not write the result");
-    }
+    input::run(
+        &rt,
+        &mut rt.stdin(),
+        "convert",
+        &mut filing::file_buffer(),
+        conversion::convert,
+    );
 }

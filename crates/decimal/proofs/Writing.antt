@@ -1,5 +1,5 @@
--- Texts put one after the other, a number digit by digit, a sign and a magnitude. Assumes nothing.
-use Prim.Native.Nat.{ℕ, ◌+◌, ◌/◌, ◌%◌, ◌≤◌, ◌<◌}
+-- Texts put one after the other, the text of a number, a sign and a magnitude. Assumes nothing.
+use Prim.Native.Nat.{ℕ, ◌%◌, ◌^◌, ◌<◌}
 use mathlib.Core.Bool.{true, false, false≢true}
 use mathlib.Core.List.{List, [], ◌∷◌, ◌++◌}
 use mathlib.Core.Path.{◌≡◌, sym, ap, ap₂, ◌∙◌}
@@ -12,9 +12,11 @@ use lib.Signed.{lt_z}
 use mir.Facts.{to_z-of_z}
 use mir.Syntax.{w32}
 use mir.Val.{SFits, to_z, of_z}
+use Rattle.std.specs.Fmt.{decimal as library_decimal}
+use Rattle.std.proofs.lemmas.Fmt.{decimal_digit, decimal_step}
 use Rattle.decimal.specs.Decimal.{digit, decimal, minus_sign, signed}
 use Rattle.decimal.specs.Put.{Puts}
-use Rattle.decimal.proofs.DecimalLaws.{decimal_one, decimal_more}
+use Rattle.decimal.proofs.DecimalLaws.{decimal_one, decimal_more, decimal_ind}
 use Rattle.basics.proofs.SetsLaws.{sets_append}
 
 -- one text, then another
@@ -24,20 +26,12 @@ then {i = i} {o = o} {a = a} {b = b} v w = record {
   next_is = rw (length-append a b) (omega arith);
 }
 
--- ---- a number: its only digit, or its last one after those of n / 10
+-- ---- a number: its text is that of the library
 
-pub one_digit : (n : ℕ) → n < 10 → length (decimal n) ≡ 1
-one_digit n l = rw (decimal_one n l)
-
-pub one_more : (n : ℕ) → 10 ≤ n → length (decimal n) ≡ length (decimal (n / 10)) + 1
-one_more n l = rw (decimal_more n l, length-append)
-
-pub put_one : {n at b next : ℕ} {o after : List ℕ} → n < 10 → b ≡ digit n → Puts o at (b ∷ []) after next → Puts o at (decimal n) after next
-put_one {n} l e v = rw (decimal_one n l, ← e) v
-
-pub put_last : {n at p b next : ℕ} {o o₁ after : List ℕ} → 10 ≤ n → b ≡ digit (n % 10)
-    → Puts o at (decimal (n / 10)) o₁ p → Puts o₁ p (b ∷ []) after next → Puts o at (decimal n) after next
-put_last {n} l e v w = rw (decimal_more n l, ← e) (then v w)
+pub library_text : (n : ℕ) → n < 2 ^ 64 → library_decimal n ≡ decimal n
+library_text = decimal_ind (λ n. n < 2 ^ 64 → library_decimal n ≡ decimal n)
+    (λ n l b. decimal_digit n l ∙ sym (decimal_one n l))
+    (λ n l more b. decimal_step n l b ∙ ap (λ (s : List ℕ). s ++ (digit (n % 10) ∷ [])) (more (omega arith)) ∙ sym (decimal_more n l))
 
 -- ---- a signed number: the sign where it is below 0, and its magnitude
 

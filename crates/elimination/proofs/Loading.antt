@@ -13,6 +13,7 @@ use lib.IntN.{pos}
 use lib.ListN.{length, get_or, replicate}
 use Rattle.scaled.specs.Scaled.{zero_number, rate_of}
 use Rattle.scaled.proofs.Laws.{rate_zero}
+use Rattle.std.specs.Prelude.{Option, None, Some}
 use Rattle.basics.specs.First.{first}
 use Rattle.basics.proofs.FirstLaws.{IsFirst, first_is}
 use Rattle.chain.specs.Sound.{Sound}
@@ -21,22 +22,15 @@ use Rattle.chain.specs.Meaning.{rate_in}
 use Rattle.chain.proofs.SoundLaws.{start_within}
 use Rattle.chain.proofs.RateLaws.{rate_none, column_once, entry_rate}
 use Rattle.kernel.specs.Slices.{Slices, pair, number_at, entry_at}
-use Rattle.kernel.specs.Kernel.{Square, Put}
-use Rattle.kernel.proofs.Entries.{kept_none, kept_on, still_square}
+use Rattle.kernel.proofs.Entries.{kept_on}
 use Rattle.members.proofs.Listing.{listed_count, listed_below, listed_place, listed_state}
-use Rattle.elimination.specs.Inner.{matrix_of, RowLoaded, Loadable, Loaded, EntryLoaded}
-use Rattle.basics.proofs.FillLaws.{get_or_replicate, length_replicate}
-
-pub entry_none : {r a b x : ℕ} (w : Slices) → r ≤ b → EntryLoaded r a b x w w
-entry_none w l = record { listed = λ g. absurd (omega arith); kept = kept_none w; other = λ _ i j. refl }
-
-pub entry_put : {r a b x : ℕ} {w w' : Slices} → b < r → Put r a b (rate_of x) w w' → EntryLoaded r a b x w w'
-entry_put l p = record { listed = λ _. p; kept = p.kept; other = λ g. absurd (omega arith) }
+use Rattle.elimination.specs.Inner.{matrix_of, RowLoaded, Loadable, EntryLoaded}
+use Rattle.basics.proofs.FillLaws.{get_or_replicate}
 
 -- ---- one row
 
 -- what is read for row a lies within the slices
-pub record RowIn (c : Rows) (states places : List ℕ) (a : ℕ) : Type 0 where
+pub record RowIn (c : Rows) (states : List ℕ) (places : List (Option ℕ)) (a : ℕ) : Type 0 where
   pub listed : a < length states
   pub state : get_or states a 0 < c.order
   pub order : c.order ≤ 64
@@ -46,9 +40,8 @@ pub record RowIn (c : Rows) (states places : List ℕ) (a : ℕ) : Type 0 where
   pub columns : length c.columns ≡ length c.rates
   pub column : (p : ℕ) → begins c (get_or states a 0) ≤ p → p < ends c (get_or states a 0) → column_at c p < length places
 
-pub row_in : {c : Rows} {states places : List ℕ} {r a : ℕ} {w : Slices} → Loadable c states places r w → a < r → RowIn c states places a
-row_in {states = states} {a = a} l h =
-    let s = l.sound in
+pub row_in : {c : Rows} {states : List ℕ} {places : List (Option ℕ)} {r a : ℕ} → Sound c → Loadable c states places r → a < r → RowIn c states places a
+row_in {states = states} {a = a} s l h =
     let i = listed_below l.listed a h in
     record {
       listed = omega (arith, l.listed.list_long, listed_count l.listed, s.order.high);
@@ -61,37 +54,35 @@ row_in {states = states} {a = a} l h =
       column = λ p lo hi. omega (arith, (s.columns_rule.entry _ p i lo hi).below, s.order.high, l.listed.places_long);
     }
 
-pub row_none : {c : Rows} {states : List ℕ} {r a : ℕ} (w : Slices) → RowLoaded c states r a (begins c (get_or states a 0)) w w
-row_none w = record { kept = kept_none w; rows = λ i j hi hj d. refl; put = λ p b l g hb q. absurd (omega arith); none = λ b hb h. refl }
-
-module _ {c : Rows} {states places : List ℕ} {r a : ℕ} {w₀ : Slices} (s : Loadable c states places r w₀) (row : a < r)
+module _ {c : Rows} {states : List ℕ} {places : List (Option ℕ)} {r a : ℕ} (sound : Sound c) (s : Loadable c states places r) (row : a < r)
     {p : ℕ} (low : begins c (get_or states a 0) ≤ p) (high : p < ends c (get_or states a 0)) where
   in_chain : column_at c p < c.order
-  in_chain = (s.sound.columns_rule.entry _ p (listed_below s.listed a row) low high).below
+  in_chain = (sound.columns_rule.entry _ p (listed_below s.listed a row) low high).below
 
   -- an earlier entry of the row has another column
   earlier : (q : ℕ) → begins c (get_or states a 0) ≤ q → q < p → column_at c q ≢ column_at c p
-  earlier q l g = column_once s.sound _ (listed_below s.listed a row) q p l (omega arith) low high (λ z. omega arith)
+  earlier q l g = column_once sound _ (listed_below s.listed a row) q p l (omega arith) low high (λ z. omega arith)
 
   -- the place of a listed state is its own
-  own_place : (b : ℕ) → b < r → column_at c p ≡ get_or states b 0 → get_or places (column_at c p) 0 ≡ b
+  own_place : (b : ℕ) → b < r → column_at c p ≡ get_or states b 0 → get_or places (column_at c p) None ≡ Some b
   own_place b hb q = rw q (listed_place s.listed b hb)
 
+  -- a place is one of the list, and its state is the column
+  pub place_of : (b : ℕ) → get_or places (column_at c p) None ≡ Some b → (b < r) × (get_or states b 0 ≡ column_at c p)
+  place_of b q = listed_state s.listed (column_at c p) b in_chain q
+
   module _ {w w₁ w₂ : Slices} (h : RowLoaded c states r a p w w₁)
-      (t : EntryLoaded r a (get_or places (column_at c p) 0) (get_or c.rates p 0) w₁ w₂) where
+      (t : EntryLoaded r a (get_or places (column_at c p) None) (get_or c.rates p 0) w₁ w₂) where
     -- the place that is put is that of column p alone
     put_other : (b : ℕ) → b < r → column_at c p ≢ get_or states b 0 → entry_at r w₂ a b ≡ entry_at r w₁ a b
-    put_other b hb d = go (dec_lt (get_or places (column_at c p) 0) r)
+    put_other b hb d = go (get_or places (column_at c p) None) refl
       where
-        go : Dec (get_or places (column_at c p) 0 < r) → entry_at r w₂ a b ≡ entry_at r w₁ a b
-        go (yes l) = (t.listed l).columns a b row hb (λ z. d (sym (rw (← z) at (listed_state s.listed s.sound.order.high (column_at c p) in_chain l))))
-        go (no l) = t.other (omega arith) a b
+        go : (o : Option ℕ) → get_or places (column_at c p) None ≡ o → entry_at r w₂ a b ≡ entry_at r w₁ a b
+        go (Some k) q = (t.listed k q).columns a b row hb (λ z. d (sym (rw (← z) at (place_of k q).1)))
+        go None q = t.other q a b
 
     put_own : (b : ℕ) → b < r → column_at c p ≡ get_or states b 0 → entry_at r w₂ a b ≡ rate_of (get_or c.rates p 0)
-    put_own b hb q =
-        let z : get_or places (column_at c p) 0 ≡ b = own_place b hb q in
-        let u : Put r a b (rate_of (get_or c.rates p 0)) w₁ w₂ = rw z at (t.listed (rw z hb)) in
-        u.same
+    put_own b hb q = (t.listed b (own_place b hb q)).same
 
     pub row_go : RowLoaded c states r a (p + 1) w w₂
     row_go = record {
@@ -105,11 +96,11 @@ module _ {c : Rows} {states places : List ℕ} {r a : ℕ} {w₀ : Slices} (s : 
     }
       where
         other_rows : (x y : ℕ) → x < r → y < r → x ≢ a → entry_at r w₂ x y ≡ entry_at r w₁ x y
-        other_rows x y hx hy d = go (dec_lt (get_or places (column_at c p) 0) r)
+        other_rows x y hx hy d = go (get_or places (column_at c p) None) refl
           where
-            go : Dec (get_or places (column_at c p) 0 < r) → entry_at r w₂ x y ≡ entry_at r w₁ x y
-            go (yes l) = (t.listed l).rows x y hx hy d
-            go (no l) = t.other (omega arith) x y
+            go : (o : Option ℕ) → get_or places (column_at c p) None ≡ o → entry_at r w₂ x y ≡ entry_at r w₁ x y
+            go (Some k) q = (t.listed k q).rows x y hx hy d
+            go None q = t.other q x y
 
 -- ---- from the rows to the matrix
 
@@ -138,14 +129,12 @@ module _ {c : Rows} {states : List ℕ} {r a : ℕ} (s : Sound c) (hi : get_or s
 
 -- the rows below k hold their rates, the others are still 0
 pub record LoadedTo (c : Rows) (states : List ℕ) (k r : ℕ) (w : Slices) : Type 0 where
-  pub square : Square r w
   pub entry : (a b : ℕ) → a < k → a < r → b < r → entry_at r w a b ≡ matrix_of c (get_or states a 0) (get_or states b 0)
   pub zeros : (a b : ℕ) → k ≤ a → a < r → b < r → entry_at r w a b ≡ zero_number
 
-pub zeros_none : {c : Rows} {states : List ℕ} {r : ℕ} {w : Slices} → r ≤ 64 → w ≡ pair (replicate (r * r) 0) (replicate (r * r) (pos 0)) → LoadedTo c states 0 r w
+pub zeros_none : {c : Rows} {states : List ℕ} {r : ℕ} {w : Slices} → w ≡ pair (replicate (r * r) 0) (replicate (r * r) (pos 0)) → LoadedTo c states 0 r w
 unfolding entry_at number_at
-zeros_none {r = r} h p = record {
-  square = record { order = h; size_m = rw p (length_replicate 0 (r * r)); size_e = rw p (length_replicate (pos 0) (r * r)) };
+zeros_none {r = r} p = record {
   entry = λ a b l ha hb. absurd (omega arith);
   zeros = λ a b l ha hb. rw (p, get_or_replicate {A = ℕ} 0 (r * r) (a * r + b), get_or_replicate (pos 0) (r * r) (a * r + b));
 }
@@ -153,13 +142,9 @@ zeros_none {r = r} h p = record {
 pub loaded_go : {c : Rows} {states : List ℕ} {k r : ℕ} {w w' : Slices} → Sound c → ((a : ℕ) → a < r → get_or states a 0 < c.order) → k < r
     → LoadedTo c states k r w → RowLoaded c states r k (ends c (get_or states k 0)) w w' → LoadedTo c states (k + 1) r w'
 loaded_go {k = k} s l hk h t = record {
-  square = still_square h.square t.kept;
   entry = λ a b g ha hb. ⊎_elim
       (λ (z : a ≡ k). rw z (row_holds s (l k hk) t (λ b hb. h.zeros k b (omega arith) hk hb) b hb))
       (λ z. t.rows a b ha hb (λ w. omega arith) ∙ h.entry a b z ha hb)
       (eq-or-lt_of_le (omega arith));
   zeros = λ a b g ha hb. t.rows a b ha hb (λ w. omega arith) ∙ h.zeros a b (omega arith) ha hb;
 }
-
-pub loaded_all : {c : Rows} {states : List ℕ} {k r : ℕ} {w : Slices} → k ≡ r → LoadedTo c states k r w → Loaded c states r w
-loaded_all q h = record { square = h.square; entry = λ a b ha hb. h.entry a b (omega arith) ha hb }

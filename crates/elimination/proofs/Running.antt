@@ -11,6 +11,7 @@ use Rattle.markov.specs.Closed.{size, spread, set_weights, set_shares}
 use Rattle.markov.proofs.Members.{size_le}
 use Rattle.scaled.specs.declared.Scaled.{Scaled}
 use Rattle.scaled.specs.Scaled.{zero_number}
+use Rattle.chain.specs.Sound.{Sound}
 use Rattle.chain.specs.Rows.{Rows}
 use Rattle.kernel.specs.Numbers.{ops}
 use Rattle.kernel.specs.Slices.{Slices, number_at}
@@ -33,16 +34,16 @@ pub record Within (n r : ℕ) (work weights shares : Slices) : Type 0 where
   pub shares_m : r ≤ length shares.m
   pub shares_e : r ≤ length shares.e
 
-pub within : {c : Rows} {set : ℕ → Bool} {r : ℕ} {work weights shares : Slices} → Weighable c set r → Square c.order work → Sized c.order weights
+pub within : {c : Rows} {set : ℕ → Bool} {r : ℕ} {work weights shares : Slices} → Sound c → Weighable c set r → Square c.order work → Sized c.order weights
     → Sized c.order shares → Within c.order r work weights shares
-within {c} {set} {r} h q w s =
+within {c} {set} {r} sound h q w s =
     let few : r ≤ c.order = omega (arith, h.size_is, size_le c.order set) in
     let squared : r * r ≤ c.order * c.order = mul-le-mul few few in
     record {
       few = few;
-      order = h.sound.order.high;
+      order = sound.order.high;
       squared = squared;
-      most = square c.order h.sound.order.high;
+      most = square c.order sound.order.high;
       work_m = omega (arith, squared, q.size_m);
       work_e = omega (arith, squared, q.size_e);
       weights_m = omega (arith, few, w.size_m);
@@ -64,17 +65,17 @@ square_sized q = record { size_m = q.size_m; size_e = q.size_e }
 pub work_sized : {n r : ℕ} {s old : Slices} → r * r ≤ n * n → Square r s → Square n old → Sized (n * n) (joined (r * r) s old)
 work_sized l p q = joined_sized l (square_sized p) (square_sized q)
 
--- the weights and the shares of the set, given to the states of the chain
-module _ (c : Rows) (set : ℕ → Bool) {r : ℕ} (e : r ≡ size c.order set) {s : Slices} (old : Slices) {t : Slices} where
-  given : {f : ℕ → Scaled} → Holds r f s → Holds c.order (spread set zero_number (number_at (joined r s old))) t → Holds c.order (spread set zero_number f) t
-  given h = spread_holds c.order r set (joined r s old) e (λ p l. joined_at old h.sized p l ∙ h.at p l)
+-- the weights and the shares of the set, given to the states of the chain, where as many places were lent as the chain has states
+module _ (c : Rows) (set : ℕ → Bool) {r : ℕ} (e : r ≡ size c.order set) {s : Slices} (old : Slices) {k : ℕ} {t : Slices} (whole : k ≡ c.order) where
+  given : {f : ℕ → Scaled} → Holds r f s → Holds k (spread set zero_number (number_at (joined r s old))) t → Holds c.order (spread set zero_number f) t
+  given h g = spread_holds c.order r set (joined r s old) e (λ p l. joined_at old h.sized p l ∙ h.at p l) (rw whole at g)
 
-  pub weights_given : Holds r (weights ops (r - 1) (set_matrix c set)) s → Holds c.order (spread set zero_number (number_at (joined r s old))) t
+  pub weights_given : Holds r (weights ops (r - 1) (set_matrix c set)) s → Holds k (spread set zero_number (number_at (joined r s old))) t
       → Holds c.order (set_weights ops c.order set (matrix_of c)) t
   unfolding set_weights
   weights_given h g = rw e at (given h g)
 
-  pub shares_given : Holds r (shares ops (r - 1) (set_matrix c set)) s → Holds c.order (spread set zero_number (number_at (joined r s old))) t
+  pub shares_given : Holds r (shares ops (r - 1) (set_matrix c set)) s → Holds k (spread set zero_number (number_at (joined r s old))) t
       → Holds c.order (set_shares ops c.order set (matrix_of c)) t
   unfolding set_shares
   shares_given h g = rw e at (given h g)

@@ -4,6 +4,8 @@ use mathlib.Core.List.{List}
 use mathlib.Core.Path.{◌≡◌, refl, sym, ap₂, ◌∙◌}
 use Prim.Native.Nat.{ℕ, zero, suc, ◌-◌, ◌<◌}
 use native.Mathlib.Omega.{arith}
+use lib.IntN.{ℤ}
+use Rattle.std.specs.Prelude.{Option}
 use Rattle.markov.specs.Elimination.{weights, shares}
 use Rattle.markov.specs.Promises.{AllFit}
 use Rattle.markov.specs.Closed.{size, alone, spread}
@@ -15,7 +17,9 @@ use Rattle.scaled.specs.declared.Scaled.{Scaled}
 use Rattle.scaled.specs.Scaled.{zero_number}
 use Rattle.chain.specs.Rows.{Rows}
 use Rattle.kernel.specs.Numbers.{Fit, ops, divided_by}
-use Rattle.kernel.specs.Slices.{Slices, number_at, entry_at}
+use Rattle.kernel.specs.declared.Numbers.{Numbers}
+use Rattle.kernel.specs.Slices.{Slices, pair, number_at, entry_at}
+use Rattle.kernel.specs.Lent.{held}
 use Rattle.kernel.specs.Kernel.{Square, Holds}
 use Rattle.weighing.specs.Weighing.{share_of, total_of, SharesFit}
 use Rattle.weighing.proofs.Shares.{shares_fit}
@@ -27,7 +31,7 @@ pub holds_same : {n : ℕ} {f g : ℕ → Scaled} {s : Slices} → ((i : ℕ) �
 holds_same e h = record { sized = h.sized; at = λ i l. h.at i l ∙ e i l }
 
 -- the matrix of the states of a set
-module _ {c : Rows} {set : ℕ → Bool} {r : ℕ} {states places : List ℕ} {s : Slices} (some : zero < r) (l : Listed c.order set r states places)
+module _ {c : Rows} {set : ℕ → Bool} {r : ℕ} {states : List ℕ} {places : List (Option ℕ)} {s : Slices} (some : zero < r) (l : Listed c.order set r states places)
     (h : Loaded c states r s) where
   entry_is : Agree (r - 1) (entry_at r s) (set_matrix c set)
   unfolding alone
@@ -53,6 +57,11 @@ module _ {c : Rows} {set : ℕ → Bool} {r : ℕ} (h : Weighable c set r) {s : 
 
   pub set_solved : {q t : Slices} → Square r q → Holds r (share_of s (total_of r s)) t → SetSolved c set r q s t
   set_solved q t = record { square = q; weights_are = w; shares_are = holds_same share_is t }
+
+-- what the lender of the slices holds at the end
+pub solved_end : {c : Rows} {set : ℕ → Bool} {r : ℕ} {q : Slices} (w t : Numbers) {wm sm : List ℕ} {we se : List ℤ} → SetSolved c set r q (held w) (held t)
+    → wm ≡ w.m.now → we ≡ w.e.now → sm ≡ t.m.now → se ≡ t.e.now → SetSolved c set r q (pair wm we) (pair sm se)
+solved_end w t h a b d f = rw (a, b, d, f) h
 
 -- ---- each result goes to its state
 

@@ -1,12 +1,11 @@
 -- What the parts of the elimination of a chain ask and leave: loading the matrix, the weights, the shares, clearing.
-use Rattle.std.specs.Prelude.{Bool, List, ◌++◌, ◌≢◌, ◌≡◌, ℕ, zero, ◌-◌, ◌*◌, ◌≤◌, ◌<◌, pos, get_or, drop, replicate}
+use Rattle.std.specs.Prelude.{Bool, List, Option, None, Some, ◌++◌, ◌≢◌, ◌≡◌, ℕ, zero, ◌-◌, ◌*◌, ◌≤◌, ◌<◌, pos, get_or, drop, replicate}
 use Rattle.markov.specs.Elimination.{weights, shares}
 use Rattle.markov.specs.Promises.{AllFitShares}
 use Rattle.markov.specs.Closed.{size, alone, set_weights, set_shares}
 use Rattle.scaled.specs.declared.Scaled.{Scaled}
 use Rattle.scaled.specs.Scaled.{rate_of}
 use Rattle.chain.specs.Rows.{Rows, begins, column_at}
-use Rattle.chain.specs.Sound.{Sound}
 use Rattle.chain.specs.Meaning.{rate_in}
 use Rattle.kernel.specs.Numbers.{ops, Fit}
 use Rattle.kernel.specs.Slices.{Slices, pair, entry_at}
@@ -30,22 +29,19 @@ pub record RowLoaded (c : Rows) (states : List ℕ) (r a to : ℕ) (s s' : Slice
       → entry_at r s' a b ≡ entry_at r s a b
 
 -- what loading asks: the r states of a set in order, and their places
-pub record Loadable (c : Rows) (states places : List ℕ) (r : ℕ) (s : Slices) : Type 0 where
-  pub sound : Sound c
+pub record Loadable (c : Rows) (states : List ℕ) (places : List (Option ℕ)) (r : ℕ) : Type 0 where
   pub set : ℕ → Bool
   pub listed : Listed c.order set r states places
-  pub square : Square r s
 
 -- the matrix holds the rates between the listed states
 pub record Loaded (c : Rows) (states : List ℕ) (r : ℕ) (s : Slices) : Type 0 where
-  pub square : Square r s
   pub entry : (a b : ℕ) → a < r → b < r → entry_at r s a b ≡ matrix_of c (get_or states a 0) (get_or states b 0)
 
--- the rate x is put at (a, b), if b is a place of the list
-pub record EntryLoaded (r a b x : ℕ) (s s' : Slices) : Type 0 where
-  pub listed : b < r → Put r a b (rate_of x) s s'
+-- the rate x is put into row a at the place of its column, if the column is listed
+pub record EntryLoaded (r a : ℕ) (place : Option ℕ) (x : ℕ) (s s' : Slices) : Type 0 where
+  pub listed : (b : ℕ) → place ≡ Some b → Put r a b (rate_of x) s s'
   pub kept : Kept s s'
-  pub other : r ≤ b → (i j : ℕ) → entry_at r s' i j ≡ entry_at r s i j
+  pub other : place ≡ None → (i j : ℕ) → entry_at r s' i j ≡ entry_at r s i j
 
 -- ---- the elimination and the shares, of a set as a chain of its own
 
@@ -55,7 +51,6 @@ set_matrix c set = alone c.order set (matrix_of c)
 
 -- a chain that passes 1 to 4, and a set of r of its states, one at least, for which every number met is a scaled number
 pub record Weighable (c : Rows) (set : ℕ → Bool) (r : ℕ) : Type 0 where
-  pub sound : Sound c
   pub size_is : r ≡ size c.order set
   pub some : zero < r
   pub fits : AllFitShares ops Fit (r - 1) (set_matrix c set)

@@ -1,6 +1,6 @@
 -- One turn of each check of the first pass, and what an accepted row, or file, gives. Assumes nothing.
 use Prim.Native.Nat.{ℕ, zero, suc, ◌+◌, ◌-◌, ◌*◌, ◌<◌, ◌≤◌}
-use mathlib.Core.Bool.{Bool, true, false, cond, not, ◌||◌, true≢false}
+use mathlib.Core.Bool.{Bool, true, false, cond, ◌||◌, true≢false}
 use mathlib.Core.List.{List, [], ◌∷◌}
 use mathlib.Core.Logic.{◌≢◌}
 use mathlib.Core.Path.{◌≡◌, refl, sym, ap, ◌∙◌}
@@ -18,21 +18,12 @@ use Rattle.layout.specs.Bytes.{map_bytes, maps_of, bit_at, marked, columns_from,
 use Rattle.file_rules.specs.Sound.{zeros_taken, zeros_refused, SoundRate}
 use Rattle.file_rules.specs.Verdict.{bytes_refused, bad_bit, first_bad_bit, loose_bit, first_loose_bit, marks_checked, same, mark_checked, rate_checked, rates_checked, row_checked, rows_checked}
 use Rattle.refusal.proofs.VerdictLaws.{accepted_if, accepted_unless, accepted_then}
-use Rattle.layout.proofs.Columns.{one_more, columns_end, columns_hit, columns_miss}
+use Rattle.layout.proofs.Columns.{one_more, columns_hit, columns_miss}
 use Rattle.layout.proofs.Rates.{MarkedBy, none, more, widths_low, maps_low}
 
 -- ---- a bit that may not stand
 
 module _ (bytes : List ℕ) (n row map j : ℕ) where
-  pub bad_own : bit_at bytes map j ≡ true → j ≡ row → eqb j row ≡ bad_bit bytes n row map j
-  bad_own t e = rw (t, eq-eqb j row e)
-
-  pub bad_above : bit_at bytes map j ≡ true → (j ≡ row → ⊥) → leb n j ≡ bad_bit bytes n row map j
-  bad_above t e = rw (t, ne_eqb j row e)
-
-  pub bad_none : bit_at bytes map j ≡ false → false ≡ bad_bit bytes n row map j
-  bad_none t = rw t
-
   -- a bit that is not bad is a column if it stands, and the other way round
   pub good_bit : bad_bit bytes n row map j ≡ false → bit_at bytes map j ≡ true → (j < n) × (j ≢ row)
   good_bit h t = let f = neither (eqb j row) (leb n j) (rw t at h) in (leb-false n j f.1, eqb-false j row f.0)
@@ -47,12 +38,6 @@ module _ (bytes : List ℕ) (n row map j : ℕ) where
 -- ---- a bit of the second map
 
 module _ (bytes : List ℕ) (n map j : ℕ) where
-  pub loose_there : bit_at bytes (map + map_bytes n) j ≡ true → not (bit_at bytes map j) ≡ loose_bit bytes n map j
-  loose_there t = rw t
-
-  pub loose_none : bit_at bytes (map + map_bytes n) j ≡ false → false ≡ loose_bit bytes n map j
-  loose_none t = rw t
-
   -- a bit that is not loose marks a column of the row, and the other way round
   pub tied_bit : loose_bit bytes n map j ≡ false → bit_at bytes (map + map_bytes n) j ≡ true → bit_at bytes map j ≡ true
   tied_bit h t = go (bit_at bytes map j) refl
@@ -158,14 +143,7 @@ pub record RatesLeft (zeros : Bool) (form : Form) (bytes : List ℕ) (n row map 
   pub inside : place ≤ length bytes
   pub left : all_rates zeros form bytes n row map ≡ rates_checked zeros form bytes row (marked form bytes n map) (columns_from bytes n map j) place
 
-pub rates_start : (zeros : Bool) (form : Form) (bytes : List ℕ) (n row map maps : ℕ) → maps ≡ maps_of form n → map + maps_of form n ≤ length bytes
-    → RatesLeft zeros form bytes n row map 0 (map + maps)
-rates_start zeros form bytes n row map maps e h = rw e (record { turn = omega arith; inside = h; left = refl })
-
 module _ (zeros : Bool) (form : Form) (bytes : List ℕ) (n row map j place : ℕ) (r : RatesLeft zeros form bytes n row map j place) where
-  pub rates_end : n ≤ j → accepts place ≡ all_rates zeros form bytes n row map
-  rates_end h = sym (r.left ∙ rw (columns_end bytes n map j h))
-
   module _ (l : j < n) where
     pub rates_miss : bit_at bytes map j ≡ false → (place' : ℕ) → place' ≡ place → RatesLeft zeros form bytes n row map (j + 1) place'
     rates_miss t place' q = rw q (record { turn = omega arith; inside = r.inside; left = r.left ∙ rw (columns_miss bytes n map j l t) })
@@ -181,9 +159,6 @@ module _ (zeros : Bool) (form : Form) (bytes : List ℕ) (n row map j place : �
             inside = (rate_is zeros form bytes row column mark place next h).whole;
             left = r.left ∙ rw (columns_hit bytes n map j l t, rw (e, m) at h);
           })
-
-      pub rates_stop : (s : Side) (x : Line) → rate_checked zeros form bytes row column mark place ≡ refuses s x → refuses s x ≡ all_rates zeros form bytes n row map
-      rates_stop s x h = sym (r.left ∙ rw (columns_hit bytes n map j l t, rw (e, m) at h))
 
 -- the k-th of the rates that are read for these columns from a place on, and its mark
 abbrev pub SoundHere : Bool → Form → (ℕ → Bool) → List ℕ → List ℕ → ℕ → ℕ → Type 0

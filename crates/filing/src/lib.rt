@@ -2,13 +2,13 @@
 #![tactic(auto)]
 
 ghost use Rattle.std.specs.Prelude.{◌≡◌, ◌≤◌, length};
-ghost use Rattle.chain.specs.Rows.{in_rows};
+ghost use Rattle.chain.specs.Rows.{rows_of};
 ghost use Rattle.chain.specs.Sound.{Accepted};
 ghost use Rattle.layout.specs.File.{file_of, longest_file};
 ghost use Rattle.decimal.specs.Put.{Puts};
 
+use chain::Chain;
 use layout::Form;
-use refusal::Outcome;
 
 // Room for the longest file, which suffices for every program that writes one.
 pub fn file_buffer() -> [u8; layout::LONGEST_FILE]
@@ -18,19 +18,9 @@ pub fn file_buffer() -> [u8; layout::LONGEST_FILE]
 }
 
 // The file of a chain that every call takes, in a form (internal).
-pub fn put_file(
-    out: &mut [u8],
-    form: Form,
-    order: usize,
-    starts: &[u32],
-    columns: &[u32],
-    rates: &[u32],
-) -> usize
-    requires { (longest_file ≤ length out.old) × Accepted (in_rows order starts columns rates) }
-    ensures { (Puts out.old 0 (file_of form (in_rows order starts.entry columns.entry rates.entry)) out.new result) × (result ≤ longest_file) }
+pub fn put_file(out: &mut [u8], form: Form, chain: Chain) -> usize
+    requires { (longest_file ≤ length out.old) × Accepted (rows_of chain) }
+    ensures { (Puts out.old 0 (file_of form (rows_of chain.entry)) out.new result) × (result ≤ longest_file) }
 {
-    match storage::write(form, order, starts, columns, rates, out) {
-        Outcome::Done(size) => size,
-        Outcome::Refused(_) => 0,
-    }
+    storage::write(form, chain, out).unwrap()
 }

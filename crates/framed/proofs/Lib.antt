@@ -1,3 +1,3 @@
--- Laws of a buffer that holds a file, and evaluated cases.
-pub mod FetchedLaws
+-- Laws of files handed on, and evaluated cases.
+pub mod HandedLaws
 pub mod Cases

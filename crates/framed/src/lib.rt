@@ -1,10 +1,11 @@
 // Files one after the other in one input, each after its length in two bytes, low byte first.
 #![tactic(auto)]
 
-ghost use Rattle.std.specs.Prelude.{◌≡◌, ◌+◌, ◌*◌, ◌<◌, IfOk, length, take};
+ghost use Rattle.std.specs.Prelude.{◌<◌, IfOk, OnOk, length, take};
+ghost use Rattle.std.specs.Fn.{CalledAt};
 ghost use Rattle.std.specs.Io.{ReadsAtMost};
 ghost use Rattle.std.specs.Io.KnownBytes.{Consumes, IsAtEnd};
-ghost use Rattle.framed.specs.Framed.{Fetched, Taken};
+ghost use Rattle.framed.specs.Framed.{Fetched, Taken, Missed, HandedAll};
 
 use std::io;
 use std::io::Read;
@@ -27,6 +28,7 @@ pub fn read_full<R: Read>(from: &mut R, buf: &mut [u8]) -> io::Result<usize>
     ensures end { IfOk result (λ n. n < length buf.new → IsAtEnd (R.remaining from.new)) }
 {
     let mut done = 0;
+    // no `for`: each read moves it on by as many bytes as it gives
     while done < buf.len() {
         let more = from.read(&mut buf[done..])?;
         if more == 0 {
@@ -37,17 +39,11 @@ pub fn read_full<R: Read>(from: &mut R, buf: &mut [u8]) -> io::Result<usize>
     Ok(done)
 }
 
-// The length that two bytes give.
-fn length_of(low: u8, high: u8) -> usize
-    ensures { result ≡ low + 256 * high }
-{
-    low as usize + 256 * (high as usize)
-}
-
 // Reads the next file into the buffer.
 pub fn fetch<R: Read>(from: &mut R, buffer: &mut [u8]) -> io::Result<Next>
     ensures buffer { IfOk result (λ next. Fetched next buffer.old buffer.new) }
     ensures bytes { IfOk result (λ next. Taken next (R.remaining from.old) (R.remaining from.new) buffer.new) }
+    ensures missed { IfOk result (λ next. Missed next (length buffer.old) (R.remaining from.old)) }
 {
     let mut head = [0u8; 2];
     let got = read_full(from, &mut head)?;
@@ -57,7 +53,7 @@ pub fn fetch<R: Read>(from: &mut R, buffer: &mut [u8]) -> io::Result<Next>
     if got < 2 {
         return Ok(Next::Cut);
     }
-    let n = length_of(head[0], head[1]);
+    let n = u16::from_le_bytes(head) as usize;
     if buffer.len() < n {
         return Ok(Next::Cut);
     }
@@ -75,8 +71,9 @@ pub fn each_file<R: Read, F: FnMut(&[u8]) -> io::Result<()>>(
     mut f: F,
 ) -> io::Result<()>
     requires { F.IsAlwaysCallable f }
+    ensures { OnOk result (HandedAll (λ p file q. CalledAt F.FnMut p file (Ok tt) q) f (R.remaining from.old) (length buffer.old)) }
 {
-    for _ in 0..u64::MAX {
+    for _turn in 0..u64::MAX {
         let Next::File(n) = fetch(from, buffer)? else {
             break;
         };

@@ -7,10 +7,9 @@ use Prim.Native.Nat.{ℕ, ◌≤◌, ◌<◌}
 use native.Mathlib.Omega.{arith}
 use borrow.Author.Tests.{le-leb, lt-leb}
 use lib.Dec.{leb}
-use Rattle.basics.proofs.BoolLaws.{both, and_yes, and_no, and_no_first, and_decides}
+use Rattle.basics.proofs.BoolLaws.{both, and_yes, and_no_first}
+use Rattle.std.specs.Prelude.{Result, Ok, Err, is_ok}
 use Rattle.refusal.specs.declared.Line.{Line}
-use Rattle.refusal.specs.declared.Outcome.{Outcome}
-use Rattle.refusal.specs.declared.Outcome.TheVariants.{Refused}
 use Rattle.refusal.specs.declared.Refusal.{Refusal}
 use Rattle.refusal.specs.Table.{Verdict, Side, accepts, refuses, of_chain, numbered, refusal, verdict, and_then}
 use Rattle.refusal.proofs.VerdictLaws.{accepted_if, accepted_then}
@@ -29,27 +28,26 @@ module _ (n : ℕ) (table : List ℕ) (room : Bool) where
   unfolding suits
   too_many h = and_no_first _ _ (and_no_first _ _ (lt-leb _ _ h))
 
-  pub unsuited : {r : Outcome} {f : Refusal} → verdict r ≡ table_checked n table → r ≡ Refused f → suits n table room ≡ false
+  -- the table's answer and the places of the groups decide
+  pub suits_is : (r : Result ℕ Refusal) → n ≤ 64 → verdict r ≡ table_checked n table → suits n table room ≡ (is_ok r && room)
   unfolding suits
-  unsuited {f = f} q t =
-      let e : table_checked n table ≡ refusal f = sym q ∙ ap verdict t in
-      and_no_first _ _ (and_no (leb n 64) _ (ap passes e))
-
-  pub room_decides : {k : ℕ} → n ≤ 64 → table_checked n table ≡ accepts k → suits n table room ≡ room
-  unfolding suits
-  room_decides l e = and_decides _ _ (and_yes _ _ (le-leb _ _ l) (ap passes e))
+  suits_is r l q = rw (le-leb n 64 l, ← q) (go r)
+    where
+      go : (r : Result ℕ Refusal) → (passes (verdict r) && room) ≡ (is_ok r && room)
+      go (Ok k) = refl
+      go (Err f) = refl
 
 module _ (c : Rows) (table : List ℕ) (room : Bool) where
   -- ---- the ways out of `admit`
 
-  pub rules_refuse : {r : Outcome} {f : Refusal} → verdict r ≡ checked c → r ≡ Refused f → verdict r ≡ admitted c table room
+  pub rules_refuse : (f : Refusal) → refusal f ≡ checked c → refusal f ≡ admitted c table room
   unfolding admitted
-  rules_refuse {f = f} q t = let e : checked c ≡ refusal f = sym q ∙ ap verdict t in rw (t, e)
+  rules_refuse f q = rw (sym q)
 
   module _ {k : ℕ} (passed : checked c ≡ accepts k) where
-    pub table_refuses : {r : Outcome} {f : Refusal} → verdict r ≡ table_checked c.order table → r ≡ Refused f → verdict r ≡ admitted c table room
+    pub table_refuses : (f : Refusal) → refusal f ≡ table_checked c.order table → refusal f ≡ admitted c table room
     unfolding admitted
-    table_refuses {f = f} q t = let e : table_checked c.order table ≡ refusal f = sym q ∙ ap verdict t in rw (passed, t, e)
+    table_refuses f q = rw (passed, sym q)
 
     module _ {j : ℕ} (fits : table_checked c.order table ≡ accepts j) where
       pub room_refuses : room ≡ false → refuses of_chain (numbered 5 0 0) ≡ admitted c table room

@@ -3,12 +3,13 @@
 use mathlib.Core.List.{List}
 use mathlib.Core.Path.{◌≡◌, sym, ◌∙◌}
 use Prim.Native.Nat.{ℕ}
-use Rattle.refusal.specs.declared.Outcome.{Outcome}
+use Rattle.std.specs.Prelude.{ℕ, Result}
+use Rattle.refusal.specs.declared.Refusal.{Refusal}
 use Rattle.refusal.specs.Table.{verdict}
 use Rattle.chain.specs.Rows.{Rows}
 use Rattle.group_shares.specs.GroupShares.{GroupLent, GroupsSolved}
 
-pub determined : {c : Rows} {table : List ℕ} {old : GroupLent} {r r₂ : Outcome} {new new₂ : GroupLent} → GroupsSolved c table old r new
+pub determined : {c : Rows} {table : List ℕ} {old : GroupLent} {r r₂ : Result ℕ Refusal} {new new₂ : GroupLent} → GroupsSolved c table old r new
     → GroupsSolved c table old r₂ new₂ → (verdict r ≡ verdict r₂) × (new ≡ new₂)
 determined {r = r} {r₂ = r₂} {new = new} {new₂ = new₂} a b =
     let v : verdict r ≡ verdict r₂ = a.answer ∙ sym b.answer in

@@ -6,8 +6,7 @@ use Prim.Native.Nat.{ℕ, ◌*◌, ◌≤◌, ◌<◌}
 use native.Mathlib.Omega.{arith}
 use lib.ListN.{length}
 use lib.Seq.{get_or-take, length-sets}
-use Rattle.refusal.specs.declared.Outcome.{Outcome}
-use Rattle.refusal.specs.declared.Outcome.TheVariants.{Done, Refused}
+use Rattle.std.specs.Prelude.{Result, Ok, Err}
 use Rattle.refusal.specs.declared.Refusal.{Refusal}
 use Rattle.refusal.specs.Table.{Verdict, accepts, refuses, verdict}
 use Rattle.chain.specs.Rows.{Rows}
@@ -38,15 +37,15 @@ kept_places (refuses _ _) x e p = rw e p
 
 -- ---- the answer, where `solve` decides
 
-pub by_solving : (c : Rows) (table : List ℕ) (old : GroupLent) {r : Outcome} {mid : Lent}
+pub by_solving : (c : Rows) (table : List ℕ) (old : GroupLent) {r : Result ℕ Refusal} {mid : Lent}
     → suits c.order table (both_have group_places (length old.groups.m) (length old.groups.e)) ≡ true → Solved c old.solving r mid
     → verdict r ≡ groups_solved c table (enough_for c.order old)
 by_solving c table old h s = s.answer ∙ sym (solving_decides c table _ (enough_in c.order old.solving) h)
 
 -- ---- the ways out
 
-module _ {c : Rows} (table : List ℕ) (old : GroupLent) {r : Outcome} (q : verdict r ≡ groups_solved c table (enough_for c.order old)) where
-  refused : {f : Refusal} → r ≡ Refused f → (mid : Lent) → mid.work ≡ after_in (verdict r) old.solving.work (zeros (c.order * c.order))
+module _ {c : Rows} (table : List ℕ) (old : GroupLent) {r : Result ℕ Refusal} (q : verdict r ≡ groups_solved c table (enough_for c.order old)) where
+  refused : {f : Refusal} → r ≡ Err f → (mid : Lent) → mid.work ≡ after_in (verdict r) old.solving.work (zeros (c.order * c.order))
       → mid.weights ≡ after_in (verdict r) old.solving.weights (numbers c.order (weights_of c))
       → mid.shares ≡ after_in (verdict r) old.solving.shares (numbers c.order (shares_of c))
       → GroupsSolved c table old r (record { solving = mid; groups = old.groups })
@@ -66,10 +65,10 @@ module _ {c : Rows} (table : List ℕ) (old : GroupLent) {r : Outcome} (q : verd
   }
     where
       never : (k : ℕ) → verdict r ≡ accepts k → ⊥
-      never k a = let u : verdict r ≡ verdict (Refused f) = ap verdict t in let z : ◌≡◌ {A = ℕ} 0 1 = cc in omega arith
+      never k a = let u : verdict r ≡ verdict (Err f) = ap verdict t in let z : ◌≡◌ {A = ℕ} 0 1 = cc in omega arith
 
   -- refused by solving
-  pub solving_refused : {f : Refusal} {mid : Lent} → r ≡ Refused f → Solved c old.solving r mid
+  pub solving_refused : {f : Refusal} {mid : Lent} → r ≡ Err f → Solved c old.solving r mid
       → GroupsSolved c table old r (record { solving = mid; groups = old.groups })
   solving_refused {mid = mid} t s = refused t mid s.work s.weights s.shares
 
@@ -144,9 +143,9 @@ module _ {c : Rows} (table : List ℕ) (old : GroupLent) {r : Outcome} (q : verd
       }
 
 -- refused before solving: nothing has changed
-pub turned_away : {c : Rows} (table : List ℕ) (old : GroupLent) (r : Outcome)
+pub turned_away : {c : Rows} (table : List ℕ) (old : GroupLent) (r : Result ℕ Refusal)
     → suits c.order table (both_have group_places (length old.groups.m) (length old.groups.e)) ≡ false
     → verdict r ≡ admitted c table (both_have group_places (length old.groups.m) (length old.groups.e)) → GroupsSolved c table old r old
-turned_away {c} table old (Done k) b q = absurd (not_suited c table _ b (sym q))
-turned_away {c} table old (Refused f) b q =
-    refused table old {r = Refused f} (sym (refused_then c table _ (enough_in c.order old.solving) (sym q))) refl old.solving refl refl refl
+turned_away {c} table old (Ok k) b q = absurd (not_suited c table _ b (sym q))
+turned_away {c} table old (Err f) b q =
+    refused table old {r = Err f} (sym (refused_then c table _ (enough_in c.order old.solving) (sym q))) refl old.solving refl refl refl

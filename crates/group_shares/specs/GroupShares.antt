@@ -1,10 +1,10 @@
 -- Document 02, R-1: what solving with a group table answers, and what it leaves in every lent place, for any input.
-use Rattle.std.specs.Prelude.{Bool, true, false, cond, ◌&&◌, List, ◌↔◌, ◌≡◌, ℕ, ◌+◌, ◌*◌, ◌<◌, ℤ, length}
+use Rattle.std.specs.Prelude.{Result, Bool, true, false, cond, ◌&&◌, List, ◌↔◌, ◌≡◌, ℕ, ◌+◌, ◌*◌, ◌<◌, ℤ, length}
 use Rattle.basics.specs.Sum.{sum}
 use Rattle.basics.specs.Near.{Near}
 use Rattle.refusal.specs.Table.{Verdict, Side, accepts, refuses, of_chain, numbered, verdict, and_then}
 use Rattle.refusal.specs.declared.Line.{Line}
-use Rattle.refusal.specs.declared.Outcome.{Outcome}
+use Rattle.refusal.specs.declared.Refusal.{Refusal}
 use Rattle.markov.specs.Chain.{Rates}
 use Rattle.markov.specs.Closed.{OnlyClosed, HasAnswer, set_weight}
 use Rattle.scaled.specs.declared.Scaled.{Scaled}
@@ -85,7 +85,7 @@ pub record GroupsAccurate (n : ℕ) (rate : Rates) (set : ℕ → Bool) (table :
 
 -- ---- the contract of `solve_groups`, with the lent slices as they were and as they are at exit
 
-pub record GroupsSolved (c : Rows) (table : List ℕ) (old : GroupLent) (r : Outcome) (new : GroupLent) : Type 0 where
+pub record GroupsSolved (c : Rows) (table : List ℕ) (old : GroupLent) (r : Result ℕ Refusal) (new : GroupLent) : Type 0 where
   pub answer : verdict r ≡ groups_solved c table (enough_for c.order old)
   pub says : GroupsSay c table old (verdict r)
   pub acceptance : GroupsSolvable c table old ↔ (verdict r ≡ accepts (count_of c))

@@ -7,96 +7,96 @@
 // `unreadable`. The input and the expected lines come from tests/groups_run.py.
 #![tactic(auto)]
 
-ghost use Rattle.std.specs.Prelude.{◌+◌, ◌≤◌, ◌<◌, length};
-ghost use Rattle.framed.specs.Framed.{IsPrefixLen};
-
-use refusal::Outcome;
+use chain::Chain;
+use refusal::Refusal;
 use std::fmt::Display;
 use std::io;
 
-fn wide(byte: u8) -> u32 {
-    byte as u32
-}
-
-fn size(word: u32) -> usize
-    ensures { result ≤ 4294967295 }
-{
-    word as usize
-}
-
-fn at_most(n: usize, most: usize) -> usize
-    ensures { (result ≤ n) × (result ≤ most) }
-{
-    if n < most { n } else { most }
-}
-
 // ---- the text
 
-fn print_outcome(rt: HostRuntime, outcome: Outcome) -> io::Result<()> {
-    match outcome {
-        Outcome::Done(k) => println!(rt; "accepted {k}"),
-        Outcome::Refused(refusal) => {
-            let line = refusal::listed(refusal);
-            println!(rt; "refused {} {} {}", line.number, line.first, line.second)
-        }
+fn print_answer(rt: &impl Print, answer: Result<usize, Refusal>) -> io::Result<()> {
+    match answer {
+        Ok(k) => println!(rt; "accepted {k}"),
+        Err(refusal) => println!(rt; "refused {}", refusal::listed(refusal)),
     }
 }
 
-// The blank before a run of equal places, and how many they are if more than one.
-fn print_times(rt: HostRuntime, count: usize) -> io::Result<()> {
-    if 1 < count {
-        print!(rt; " {count}x")
-    } else {
-        print!(rt; " ")
-    }
-}
-
-// Where the run of equal places ends that begins here.
-fn run_end<T: PartialEq>(places: &[T], from: usize) -> usize
-    requires { from < length places.now }
-    ensures { (from < result) × (result ≤ length places.now) }
-{
-    for end in from + 1..places.len() {
-        if places[end] != places[from] {
-            return end;
-        }
-    }
-    places.len()
-}
-
-// The places of a slice, each run of equal ones once.
+// The places of a slice, each run of equal ones once, behind how many they are if more than one.
 fn print_places<T: Display + PartialEq>(
-    rt: HostRuntime,
+    rt: &impl Print,
     name: &str,
     places: &[T],
 ) -> io::Result<()> {
     print!(rt; "{name}")?;
-    let mut at = 0;
-    while at < places.len() {
-        let end = run_end(places, at);
-        print_times(rt, end - at)?;
-        print!(rt; "{}", places[at])?;
-        at = end;
+    for run in places.chunk_by(|a, b| a == b) {
+        match run {
+            [] => {}
+            [place] => print!(rt; " {place}")?,
+            [place, ..] => print!(rt; " {}x{place}", run.len())?,
+        }
     }
     println!(rt)
 }
 
 // ---- a call
 
+// A call's first thirteen numbers, and its lists.
+#[derive(Clone, Copy)]
+struct Call<'a> {
+    head: &'a [u32; 13],
+    chain: Chain<'a>,
+    table: &'a [u32],
+}
+
+// A function of its own, since the proof knows of a parameter that its numbers have 32 bits, which `Chain` asks.
+fn chain_of<'a>(
+    order: usize,
+    starts: &'a [u32],
+    columns: &'a [u32],
+    rates: &'a [u32],
+) -> Chain<'a> {
+    Chain {
+        order,
+        starts,
+        columns,
+        rates,
+    }
+}
+
+// The call that these numbers are, if they are one.
+fn call_of(words: &[u32]) -> Option<Call<'_>> {
+    let (head, lists) = words.split_first_chunk::<13>()?;
+    let (starts, lists) = lists.split_at_checked(head[1] as usize)?;
+    let (columns, lists) = lists.split_at_checked(head[2] as usize)?;
+    let (rates, lists) = lists.split_at_checked(head[3] as usize)?;
+    let (table, rest) = lists.split_at_checked(head[4] as usize)?;
+    if !rest.is_empty() {
+        return None;
+    }
+    let chain = chain_of(head[0] as usize, starts, columns, rates);
+    Some(Call { head, chain, table })
+}
+
 // The answer, and every lent place.
-fn print_all(
-    rt: HostRuntime,
-    outcome: Outcome,
-    m: &[u32],
-    e: &[i32],
-    wm: &[u32],
-    we: &[i32],
-    sm: &[u32],
-    se: &[i32],
-    gm: &[u32],
-    ge: &[i32],
-) -> io::Result<()> {
-    print_outcome(rt, outcome)?;
+fn solve_and_print(rt: &impl Print, call: Call) -> io::Result<()> {
+    let mut m = [7u32; 4100];
+    let mut e = [7i32; 4100];
+    let mut wm = [7u32; 70];
+    let mut we = [7i32; 70];
+    let mut sm = [7u32; 70];
+    let mut se = [7i32; 70];
+    let mut gm = [7u32; 20];
+    let mut ge = [7i32; 20];
+    let m = &mut m[..(call.head[5] as usize).min(4100)];
+    let e = &mut e[..(call.head[6] as usize).min(4100)];
+    let wm = &mut wm[..(call.head[7] as usize).min(70)];
+    let we = &mut we[..(call.head[8] as usize).min(70)];
+    let sm = &mut sm[..(call.head[9] as usize).min(70)];
+    let se = &mut se[..(call.head[10] as usize).min(70)];
+    let gm = &mut gm[..(call.head[11] as usize).min(20)];
+    let ge = &mut ge[..(call.head[12] as usize).min(20)];
+    let answer = group_shares::solve_groups(call.chain, call.table, m, e, wm, we, sm, se, gm, ge);
+    print_answer(rt, answer)?;
     print_places(rt, "m", m)?;
     print_places(rt, "e", e)?;
     print_places(rt, "wm", wm)?;
@@ -107,132 +107,30 @@ fn print_all(
     print_places(rt, "ge", ge)
 }
 
-fn solve_and_print(
-    rt: HostRuntime,
-    n: usize,
-    starts: &[u32],
-    columns: &[u32],
-    rates: &[u32],
-    table: &[u32],
-    m: &mut [u32],
-    e: &mut [i32],
-    wm: &mut [u32],
-    we: &mut [i32],
-    sm: &mut [u32],
-    se: &mut [i32],
-    gm: &mut [u32],
-    ge: &mut [i32],
-) -> io::Result<()> {
-    let outcome = group_shares::solve_groups(
-        n, starts, columns, rates, table, m, e, wm, we, sm, se, gm, ge,
-    );
-    print_all(rt, outcome, m, e, wm, we, sm, se, gm, ge)
-}
-
-// One call: its first thirteen numbers, and its lists.
-fn lend(
-    rt: HostRuntime,
-    head: &[u32],
-    starts: &[u32],
-    columns: &[u32],
-    rates: &[u32],
-    table: &[u32],
-) -> io::Result<()>
-    requires { 13 ≤ length head.now }
-{
-    let mut m = [7u32; 4100];
-    let mut e = [7i32; 4100];
-    let mut wm = [7u32; 70];
-    let mut we = [7i32; 70];
-    let mut sm = [7u32; 70];
-    let mut se = [7i32; 70];
-    let mut gm = [7u32; 20];
-    let mut ge = [7i32; 20];
-    let m_places = at_most(size(head[5]), 4100);
-    let e_places = at_most(size(head[6]), 4100);
-    let wm_places = at_most(size(head[7]), 70);
-    let we_places = at_most(size(head[8]), 70);
-    let sm_places = at_most(size(head[9]), 70);
-    let se_places = at_most(size(head[10]), 70);
-    let gm_places = at_most(size(head[11]), 20);
-    let ge_places = at_most(size(head[12]), 20);
-    solve_and_print(
-        rt,
-        size(head[0]),
-        starts,
-        columns,
-        rates,
-        table,
-        &mut m[..m_places],
-        &mut e[..e_places],
-        &mut wm[..wm_places],
-        &mut we[..we_places],
-        &mut sm[..sm_places],
-        &mut se[..se_places],
-        &mut gm[..gm_places],
-        &mut ge[..ge_places],
-    )
-}
-
-fn unreadable(rt: HostRuntime) -> io::Result<()> {
-    println!(rt; "unreadable")
-}
-
-// The numbers of a call: thirteen, and the lists.
-fn read_call(rt: HostRuntime, words: &[u32]) -> io::Result<()> {
-    if words.len() < 13 {
-        return unreadable(rt);
-    }
-    let columns = 13 + size(words[1]);
-    let rates = columns + size(words[2]);
-    let table = rates + size(words[3]);
-    let end = table + size(words[4]);
-    if end != words.len() {
-        return unreadable(rt);
-    }
-    lend(
-        rt,
-        words,
-        &words[13..columns],
-        &words[columns..rates],
-        &words[rates..table],
-        &words[table..end],
-    )
-}
-
 // ---- the input
 
-// The number of the four bytes from here.
-fn word(bytes: &[u8], at: usize) -> u32
-    requires { at + 4 ≤ length bytes.now }
-{
-    wide(bytes[at])
-        | (wide(bytes[at + 1]) << 8)
-        | (wide(bytes[at + 2]) << 16)
-        | (wide(bytes[at + 3]) << 24)
+// The numbers of these bytes, put at the front of the slice; none where the last is cut short, or where they are too many for it.
+fn words_of<'a>(bytes: &[u8], words: &'a mut [u32]) -> Option<&'a [u32]> {
+    let (numbers, rest) = bytes.as_chunks::<4>();
+    if !rest.is_empty() {
+        return None;
+    }
+    let words = words.get_mut(..numbers.len())?;
+    for (word, number) in words.iter_mut().zip(numbers) {
+        *word = u32::from_le_bytes(*number);
+    }
+    Some(words)
 }
 
-// The numbers of these bytes; there are so many.
-fn unpack(bytes: &[u8], words: &mut [u32]) -> usize
-    ensures { IsPrefixLen result words.new }
-{
-    let count = at_most(bytes.len() / 4, words.len());
-    for i in 0..count {
-        words[i] = word(bytes, 4 * i);
-    }
-    count
-}
-
-fn answer(rt: HostRuntime, bytes: &[u8]) -> io::Result<()> {
-    if bytes.len() % 4 != 0 {
-        return unreadable(rt);
-    }
+fn answer(rt: &impl Print, bytes: &[u8]) -> io::Result<()> {
     let mut words = [0u32; 16384];
-    let count = unpack(bytes, &mut words);
-    read_call(rt, &words[..count])
+    match words_of(bytes, &mut words).and_then(call_of) {
+        Some(call) => solve_and_print(rt, call),
+        None => println!(rt; "unreadable"),
+    }
 }
 
 fn main(rt: HostRuntime) -> io::Result<()> {
     let mut buffer = [0u8; 65535];
-    framed::each_file(&mut rt.stdin(), &mut buffer, |bytes| answer(rt, bytes))
+    framed::each_file(&mut rt.stdin(), &mut buffer, |bytes| answer(&rt, bytes))
 }

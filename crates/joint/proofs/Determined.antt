@@ -2,10 +2,11 @@
 use mathlib.Core.Path.{◌≡◌, sym, ◌∙◌}
 use Rattle.chain.specs.Rows.{Rows}
 use Rattle.layout.specs.Buffers.{Buffers, buffers}
-use Rattle.joint.specs.declared.Joining.{Joining}
+use Rattle.std.specs.Prelude.{ℕ, Result}
+use Rattle.joint.specs.declared.JoinRefusal.{JoinRefusal}
 use Rattle.joint.specs.Joining.{told_joining, Joins}
 
-pub join_determined : {first second : Rows} {old : Buffers} {r r₂ : Joining} {new new₂ : Buffers} → Joins first second old r new → Joins first second old r₂ new₂
+pub join_determined : {first second : Rows} {old : Buffers} {r r₂ : Result ℕ JoinRefusal} {new new₂ : Buffers} → Joins first second old r new → Joins first second old r₂ new₂
     → (told_joining r ≡ told_joining r₂) × (new ≡ new₂)
 join_determined {r = r} {r₂ = r₂} {new = new} {new₂ = new₂} a b =
     let v : told_joining r ≡ told_joining r₂ = a.answer ∙ sym b.answer in

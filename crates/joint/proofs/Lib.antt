@@ -3,3 +3,4 @@ pub mod Cases
 pub mod Determined
 pub mod RowLaws
 pub mod WaysOut
+pub mod Mapped

@@ -92,13 +92,6 @@ module _ (n : ℕ) (f : Rates) (x : ℕ) (columns rates : List ℕ) (p : ℕ) wh
       rates_long = h.rates_long;
     }
 
-    -- kept since the port: today the check finds what cited it
-    pub row_end_lem : n ≤ y → JointRowPut n f x columns rates p q columns' rates'
-    row_end_lem l =
-        let e : y ≡ n = omega (arith, h.below) in
-        let d : RowSoFar n f x columns rates p n q columns' rates' = rw e at h in
-        record { next = d.next; columns_are = d.columns_are; rates_are = d.rates_are }
-
 -- ---- all rows
 
 table_more : (k : ℕ) (f : ℕ → ℕ) → table (suc k) f ≡ table k f ++ (f k ∷ [])

@@ -15,12 +15,13 @@ use Rattle.joined.specs.Joined.{joint_rates, joined, entries_of, JointChain}
 use Rattle.joined.specs.Verdict.{Whose, of_joint, join_verdict, Joinable, JoinSays, first_broken, second_broken, order_broken, room_short, joins}
 use Rattle.joined.proofs.JoinedLaws.{joined_count, joined_accepted, joint_chain}
 use Rattle.joined.proofs.Meaning.{join_says}
-use Rattle.joint.specs.declared.Joining.{Joining}
-use Rattle.joint.specs.declared.Joining.TheVariants.{Done, First, Second, Joint}
+use Rattle.std.specs.Prelude.{Result, Ok, Err}
+use Rattle.joint.specs.declared.JoinRefusal.{JoinRefusal}
+use Rattle.joint.specs.declared.JoinRefusal.TheVariants.{First, Second, Joint}
 use Rattle.joint.specs.Joining.{told_joining, Joins}
 use Rattle.joint.specs.Inner.{PutRows, RowsPut}
 
-module _ (first second : Rows) (old : Buffers) (r : Joining)
+module _ (first second : Rows) (old : Buffers) (r : Result ℕ JoinRefusal)
     (a : told_joining r ≡ join_verdict first second (length old.starts) (length old.columns) (length old.rates)) where
   says : JoinSays first second (length old.starts) (length old.columns) (length old.rates) (told_joining r)
   says = rw a (join_says first second (length old.starts) (length old.columns) (length old.rates))
@@ -37,7 +38,7 @@ not_both {side = side} {line = line} {e = e} p =
 
 -- a refusal: nothing is written
 module _ (first second : Rows) (old : Buffers) where
-  refused : (r : Joining) → told_joining r ≡ join_verdict first second (length old.starts) (length old.columns) (length old.rates)
+  refused : (r : Result ℕ JoinRefusal) → told_joining r ≡ join_verdict first second (length old.starts) (length old.columns) (length old.rates)
       → {w : Whose} (f : Refusal) → told_joining r ≡ (w, refusal f) → Joins first second old r old
   refused r a f q = record {
     answer = a;
@@ -48,12 +49,11 @@ module _ (first second : Rows) (old : Buffers) where
     joint = λ e p. absurd (not_both (sym q ∙ p));
   }
 
-  pub join_stop : (r : Joining) → told_joining r ≡ join_verdict first second (length old.starts) (length old.columns) (length old.rates)
-      → ((e : ℕ) → r ≡ Done e → ⊥) → Joins first second old r old
-  join_stop (Done e) a k = absurd (k e refl)
-  join_stop (First f) a k = refused (First f) a f refl
-  join_stop (Second f) a k = refused (Second f) a f refl
-  join_stop (Joint f) a k = refused (Joint f) a f refl
+  pub join_stop : (f : JoinRefusal) → told_joining (Err f) ≡ join_verdict first second (length old.starts) (length old.columns) (length old.rates)
+      → Joins first second old (Err f) old
+  join_stop (First f) a = refused (Err (First f)) a f refl
+  join_stop (Second f) a = refused (Err (Second f)) a f refl
+  join_stop (Joint f) a = refused (Err (Joint f)) a f refl
 
 -- what an acceptance says
 record Taken (first second : Rows) (old : Buffers) (e : ℕ) : Type 0 where
@@ -62,9 +62,9 @@ record Taken (first second : Rows) (old : Buffers) (e : ℕ) : Type 0 where
   room : HasRoom (first.order * second.order) (entries_of first second) (length old.starts) (length old.columns) (length old.rates)
 
 module _ (first second : Rows) (old : Buffers) (e : ℕ)
-    (a : told_joining (Done e) ≡ join_verdict first second (length old.starts) (length old.columns) (length old.rates)) where
+    (a : told_joining (Ok e) ≡ join_verdict first second (length old.starts) (length old.columns) (length old.rates)) where
   done : Taken first second old e
-  done = go (of_joint, accepts e) (says first second old (Done e) a) refl
+  done = go (of_joint, accepts e) (says first second old (Ok e) a) refl
     where
       go : (v : Whose × Verdict ℕ) → JoinSays first second (length old.starts) (length old.columns) (length old.rates) v
           → v ≡ (of_joint, accepts e) → Taken first second old e
@@ -74,17 +74,18 @@ module _ (first second : Rows) (old : Buffers) (e : ℕ)
       go v (order_broken p s l) q = absurd (not_both q)
       go v (room_short j h) q = absurd (not_both q)
 
-  pub join_asks : Joinable first second × PutRows (first.order * second.order) (joint_rates first second) old
+  pub join_parts : Joinable first second
+  join_parts = done.parts
+
+  pub join_asks : PutRows (first.order * second.order) (joint_rates first second) old
   unfolding joined
   join_asks =
-      let n = joined_count done.parts.first_accepted done.parts.second_accepted in (
-        done.parts,
-        record {
-          starts_fit = done.room.for_starts;
-          columns_fit = omega (arith, n, done.room.for_columns);
-          rates_fit = omega (arith, n, done.room.for_rates);
-        },
-      )
+      let n = joined_count done.parts.first_accepted done.parts.second_accepted in
+      record {
+        starts_fit = done.room.for_starts;
+        columns_fit = omega (arith, n, done.room.for_columns);
+        rates_fit = omega (arith, n, done.room.for_rates);
+      }
 
   module _ (new : Buffers) (g : RowsPut (first.order * second.order) (joint_rates first second) old new) where
     -- the joint chain stands at the beginning of the slices
@@ -103,11 +104,11 @@ module _ (first second : Rows) (old : Buffers) (e : ℕ)
         ap (take e) g.rates_are ∙ take_sets old.rates c.rates e (sym f.lengths ∙ m) (omega (arith, done.count, done.room.for_rates)) in
         sym (λ i. rows n (s i) (k i) (t i))
 
-    whole : Joins first second old (Done e) new
+    pub join_whole : Joins first second old (Ok e) new
     unfolding joined
-    whole = record {
+    join_whole = record {
       answer = a;
-      says = says first second old (Done e) a;
+      says = says first second old (Ok e) a;
       starts_are = g.starts_are;
       columns_are = g.columns_are;
       rates_are = g.rates_are;
@@ -116,6 +117,3 @@ module _ (first second : Rows) (old : Buffers) (e : ℕ)
           subst (λ (x : ℕ). JointChain first second (chain_in new (first.order * second.order) x)) q
           (subst (JointChain first second) chain_is (joint_chain done.parts));
     }
-
-    pub join_whole : {r : Joining} → r ≡ Done e → Joins first second old r new
-    join_whole q = rw q whole

@@ -8,177 +8,115 @@
 // input and the expected lines come from tests/joint_run.py; `tools/chain join` reads the first of the two lines.
 #![tactic(auto)]
 
-ghost use Rattle.std.specs.Prelude.{◌*◌, ◌≤◌, length};
-
+use chain::Chain;
 use framed::Next;
-use joint::Joining;
+use joint::JoinRefusal;
 use layout::Form;
-use refusal::{Outcome, Refusal};
-use std::io;
-use storage::Reading;
+use refusal::Refusal;
+use std::io::Read;
+use std::{fmt, io};
 
 // ---- the text
 
+// Bytes that print in hexadecimal digits, two each.
+#[derive(Clone, Copy)]
+struct Hexadecimal<'a>(&'a [u8]);
+
+impl fmt::Display for Hexadecimal<'_> {
+    fn fmt<W: fmt::Write>(&self, f: &mut fmt::Formatter<W>) -> fmt::Result {
+        for byte in self.0 {
+            write!(f, "{byte:02x}")?;
+        }
+        Ok(())
+    }
+}
+
 // Whose refusal it is, in a word and a blank, or nothing; then its number and places.
-fn print_refusal(rt: HostRuntime, whose: &str, refusal: Refusal) -> io::Result<()> {
-    let line = refusal::listed(refusal);
-    print!(rt;
-        "{whose}refused {} {} {}",
-        line.number, line.first, line.second
-    )
-}
-
-// A hexadecimal digit, for numbers below 16.
-fn digit(x: u8) -> u8 {
-    if x < 10 {
-        return b'0' + x;
-    }
-    if x < 16 {
-        return b'a' - 10 + x;
-    }
-    b'?'
-}
-
-// The bytes as hexadecimal digits, two each.
-fn put_digits(bytes: &[u8], text: &mut [u8])
-    requires { 2 * length bytes.now ≤ length text.old }
-{
-    for i in 0..bytes.len() {
-        text[2 * i] = digit(bytes[i] / 16);
-        text[2 * i + 1] = digit(bytes[i] % 16);
-    }
-}
-
-// The first bytes of a file's buffer, so many, in hexadecimal digits.
-fn print_bytes(rt: HostRuntime, buffer: &[u8], size: usize) -> io::Result<()> {
-    let mut text = [0u8; 2 * layout::LONGEST_FILE];
-    if size <= buffer.len() && size <= layout::LONGEST_FILE {
-        put_digits(&buffer[..size], &mut text);
-        rt.write_all(&text[..2 * size])?;
-    }
-    Ok(())
+fn print_refusal(rt: &impl Print, whose: &str, refusal: Refusal) -> io::Result<()> {
+    print!(rt; "{whose}refused {}", refusal::listed(refusal))
 }
 
 // How many places at the end hold 5,000.
 fn kept(places: &[u32]) -> usize {
-    for count in 0..places.len() {
-        if places[places.len() - 1 - count] != 5000 {
-            return count;
+    places
+        .iter()
+        .rev()
+        .take_while(|place| **place == 5000)
+        .count()
+}
+
+// ---- chains
+
+// Room for every chain.
+#[derive(Clone, Copy)]
+struct Room {
+    starts: [u32; layout::MOST_STARTS],
+    columns: [u32; layout::MOST_ENTRIES],
+    rates: [u32; layout::MOST_ENTRIES],
+}
+
+impl Room {
+    fn new() -> Room {
+        Room {
+            starts: [5000; layout::MOST_STARTS],
+            columns: [5000; layout::MOST_ENTRIES],
+            rates: [5000; layout::MOST_ENTRIES],
         }
     }
-    places.len()
 }
-
-fn print_kept(rt: HostRuntime, starts: &[u32], columns: &[u32], rates: &[u32]) -> io::Result<()> {
-    println!(rt; " kept {} {} {}", kept(starts), kept(columns), kept(rates))
-}
-
-// ---- the joint chain
-
-// The order of the joint chain of parts that a joining has taken.
-fn joint_order(a: usize, b: usize) -> usize {
-    if a <= 64 && b <= 64 {
-        return a * b;
-    }
-    0
-}
-
-// Writes a chain that stands in lent slices, and prints the file.
-fn print_file(
-    rt: HostRuntime,
-    order: usize,
-    entries: usize,
-    starts: &[u32],
-    columns: &[u32],
-    rates: &[u32],
-) -> io::Result<()> {
-    let mut out = [0u8; layout::LONGEST_FILE];
-    if order < starts.len() && entries <= columns.len() && entries <= rates.len() {
-        match storage::write(
-            Form::One,
-            order,
-            &starts[..order + 1],
-            &columns[..entries],
-            &rates[..entries],
-            &mut out,
-        ) {
-            Outcome::Done(size) => print_bytes(rt, &out, size)?,
-            Outcome::Refused(refusal) => print_refusal(rt, "written ", refusal)?,
-        }
-    }
-    Ok(())
-}
-
-// Joins two parts, which begin their slices, into the three last slices, and prints the line.
-fn print_joint(
-    rt: HostRuntime,
-    a: usize,
-    entries1: usize,
-    starts1: &[u32],
-    columns1: &[u32],
-    rates1: &[u32],
-    b: usize,
-    entries2: usize,
-    starts2: &[u32],
-    columns2: &[u32],
-    rates2: &[u32],
-    starts: &mut [u32],
-    columns: &mut [u32],
-    rates: &mut [u32],
-) -> io::Result<()> {
-    if a < starts1.len() && entries1 <= columns1.len() && entries1 <= rates1.len() {
-        if b < starts2.len() && entries2 <= columns2.len() && entries2 <= rates2.len() {
-            match joint::join(
-                a,
-                &starts1[..a + 1],
-                &columns1[..entries1],
-                &rates1[..entries1],
-                b,
-                &starts2[..b + 1],
-                &columns2[..entries2],
-                &rates2[..entries2],
-                starts,
-                columns,
-                rates,
-            ) {
-                Joining::Done(entries) => {
-                    print_file(rt, joint_order(a, b), entries, starts, columns, rates)?
-                }
-                Joining::First(refusal) => print_refusal(rt, "first ", refusal)?,
-                Joining::Second(refusal) => print_refusal(rt, "second ", refusal)?,
-                Joining::Joint(refusal) => print_refusal(rt, "", refusal)?,
-            }
-            print_kept(rt, starts, columns, rates)?;
-        }
-    }
-    Ok(())
-}
-
-// ---- the parts
 
 // Reads a part, old files with rates of 0 too or not.
-fn read_part(
-    bytes: &[u8],
-    old: bool,
+fn read_part<'a>(bytes: &[u8], old: bool, room: &'a mut Room) -> Result<Chain<'a>, Refusal> {
+    let starts = &mut room.starts;
+    let columns = &mut room.columns;
+    let rates = &mut room.rates;
+    let reading = if old {
+        storage::read_with_zeros(bytes, starts, columns, rates)?
+    } else {
+        storage::read(bytes, starts, columns, rates)?
+    };
+    Ok(reading.chain(starts, columns, rates))
+}
+
+// Writes a chain, and prints the file.
+fn print_file(rt: &impl Print, chain: Chain) -> io::Result<()> {
+    let mut out = [0u8; layout::LONGEST_FILE];
+    match storage::write(Form::One, chain, &mut out) {
+        Ok(size) => print!(rt; "{}", Hexadecimal(&out[..size])),
+        Err(refusal) => print_refusal(rt, "written ", refusal),
+    }
+}
+
+// Joins two parts into these slices, and prints the line.
+fn print_joint(
+    rt: &impl Print,
+    first: Chain,
+    second: Chain,
     starts: &mut [u32],
     columns: &mut [u32],
     rates: &mut [u32],
-) -> Reading {
-    if old {
-        return storage::read_with_zeros(bytes, starts, columns, rates);
+) -> io::Result<()> {
+    match joint::join(first, second, starts, columns, rates) {
+        Ok(entries) => {
+            let order = first.order * second.order;
+            let chain = Chain {
+                order,
+                starts: &starts[..order + 1],
+                columns: &columns[..entries],
+                rates: &rates[..entries],
+            };
+            print_file(rt, chain)?
+        }
+        Err(JoinRefusal::First(refusal)) => print_refusal(rt, "first ", refusal)?,
+        Err(JoinRefusal::Second(refusal)) => print_refusal(rt, "second ", refusal)?,
+        Err(JoinRefusal::Joint(refusal)) => print_refusal(rt, "", refusal)?,
     }
-    storage::read(bytes, starts, columns, rates)
-}
-
-// A part that was not read.
-fn print_unread(rt: HostRuntime, whose: &str, refusal: Refusal) -> io::Result<()> {
-    print_refusal(rt, whose, refusal)?;
-    println!(rt)
+    println!(rt; " kept {} {} {}", kept(starts), kept(columns), kept(rates))
 }
 
 // One line: what joining two stored chains into these slices gives.
 fn print_line(
-    rt: HostRuntime,
+    rt: &impl Print,
     first: &[u8],
     second: &[u8],
     old: bool,
@@ -186,81 +124,62 @@ fn print_line(
     columns: &mut [u32],
     rates: &mut [u32],
 ) -> io::Result<()> {
-    let mut starts1 = [0u32; layout::MOST_STARTS];
-    let mut columns1 = [0u32; layout::MOST_ENTRIES];
-    let mut rates1 = [0u32; layout::MOST_ENTRIES];
-    let mut starts2 = [0u32; layout::MOST_STARTS];
-    let mut columns2 = [0u32; layout::MOST_ENTRIES];
-    let mut rates2 = [0u32; layout::MOST_ENTRIES];
-    match read_part(first, old, &mut starts1, &mut columns1, &mut rates1) {
-        Reading::Refused(refusal) => print_unread(rt, "first ", refusal),
-        Reading::Chain {
-            order: a,
-            entries: e1,
-            form: _,
-        } => {
-            match read_part(second, old, &mut starts2, &mut columns2, &mut rates2) {
-                Reading::Refused(refusal) => print_unread(rt, "second ", refusal),
-                Reading::Chain {
-                    order: b,
-                    entries: e2,
-                    form: _,
-                } => print_joint(
-                    rt, a, e1, &starts1, &columns1, &rates1, b, e2, &starts2, &columns2, &rates2,
-                    starts, columns, rates,
-                ),
-            }
+    let mut room1 = Room::new();
+    let mut room2 = Room::new();
+    match read_part(first, old, &mut room1) {
+        Err(refusal) => {
+            print_refusal(rt, "first ", refusal)?;
+            println!(rt)
         }
+        Ok(first) => match read_part(second, old, &mut room2) {
+            Err(refusal) => {
+                print_refusal(rt, "second ", refusal)?;
+                println!(rt)
+            }
+            Ok(second) => print_joint(rt, first, second, starts, columns, rates),
+        },
     }
 }
 
 // ---- the input
 
-// With room for every joint chain, of files without rates of 0.
-fn with_room(rt: HostRuntime, first: &[u8], second: &[u8]) -> io::Result<()> {
-    let mut starts = [5000u32; layout::MOST_STARTS];
-    let mut columns = [5000u32; layout::MOST_ENTRIES];
-    let mut rates = [5000u32; layout::MOST_ENTRIES];
+// The line with room for every joint chain, of files without rates of 0; and with room for up to 8 states, 24 columns and 20 rates, of old
+// files too.
+fn report(rt: &impl Print, first: &[u8], second: &[u8]) -> io::Result<()> {
+    let mut room = Room::new();
     print_line(
         rt,
         first,
         second,
         false,
-        &mut starts,
-        &mut columns,
-        &mut rates,
-    )
-}
-
-// With room for up to 8 states, 24 columns and 20 rates, of old files too.
-fn with_less(rt: HostRuntime, first: &[u8], second: &[u8]) -> io::Result<()> {
-    let mut starts = [5000u32; 9];
-    let mut columns = [5000u32; 24];
-    let mut rates = [5000u32; 20];
+        &mut room.starts,
+        &mut room.columns,
+        &mut room.rates,
+    )?;
+    let mut less = Room::new();
     print_line(
         rt,
         first,
         second,
         true,
-        &mut starts,
-        &mut columns,
-        &mut rates,
+        &mut less.starts[..9],
+        &mut less.columns[..24],
+        &mut less.rates[..20],
     )
 }
 
-fn report(rt: HostRuntime, first: &[u8], second: &[u8]) -> io::Result<()> {
-    with_room(rt, first, second)?;
-    with_less(rt, first, second)
-}
-
 // A proved loop has to end, so it takes a number of turns that no input uses up.
-fn all_pairs(rt: HostRuntime, first: &mut [u8], second: &mut [u8]) -> io::Result<()> {
-    let mut stdin = rt.stdin();
+fn all_pairs(
+    rt: &impl Print,
+    from: &mut impl Read,
+    first: &mut [u8],
+    second: &mut [u8],
+) -> io::Result<()> {
     for _ in 0..u64::MAX {
-        let Next::File(n) = framed::fetch(&mut stdin, first)? else {
+        let Next::File(n) = framed::fetch(from, first)? else {
             break;
         };
-        let Next::File(m) = framed::fetch(&mut stdin, second)? else {
+        let Next::File(m) = framed::fetch(from, second)? else {
             break;
         };
         report(rt, &first[..n], &second[..m])?;
@@ -271,5 +190,5 @@ fn all_pairs(rt: HostRuntime, first: &mut [u8], second: &mut [u8]) -> io::Result
 fn main(rt: HostRuntime) -> io::Result<()> {
     let mut first = [0u8; layout::ENOUGH_BYTES];
     let mut second = [0u8; layout::ENOUGH_BYTES];
-    all_pairs(rt, &mut first, &mut second)
+    all_pairs(&rt, &mut rt.stdin(), &mut first, &mut second)
 }

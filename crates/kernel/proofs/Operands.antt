@@ -3,21 +3,20 @@ use mathlib.Core.Bool.{true, false≢true}
 use mathlib.Core.Logic.{◌≢◌}
 use mathlib.Core.Path.{◌≡◌, refl, sym, ap, ◌∙◌}
 use Rattle.scaled.specs.declared.Scaled.{Scaled}
-use Rattle.scaled.specs.declared.Rounded.{Rounded}
-use Rattle.scaled.specs.declared.Rounded.TheVariants.{Number, None}
+use Rattle.std.specs.Prelude.{Option, Some, None}
 use Rattle.scaled.specs.Scaled.{zero_number, no_number, ranged_number, is_number, sum_of, product_of, quotient_of, sum_with}
 use Rattle.scaled.proofs.Laws.{not_scaled, number_is, sum_operands, sum_right_refused, product_operands, quotient_operands, quotient_divisor}
 use Rattle.kernel.specs.Numbers.{Fit, settle, plus, times, divided_by}
 
-pub number_of : (x : Rounded) → Fit (settle x) → (r : Scaled) × (x ≡ Number r)
-number_of (Number r) f = (r, refl)
+pub number_of : (x : Option Scaled) → Fit (settle x) → (r : Scaled) × (x ≡ Some r)
+number_of (Some r) f = (r, refl)
 number_of None f = absurd (false≢true (sym not_scaled ∙ f))
 
-pub is_number_lem : (x : Rounded) → Fit (settle x) → is_number x ≡ true
+pub is_number_lem : (x : Option Scaled) → Fit (settle x) → is_number x ≡ true
 is_number_lem x f = ap is_number (number_of x f).1
 
 -- what is answered with e of any size is the result, where the result is a number
-pub known : (r : Scaled) (x : Rounded) → ranged_number r ≡ x → Fit (settle x) → r ≡ settle x
+pub known : (r : Scaled) (x : Option Scaled) → ranged_number r ≡ x → Fit (settle x) → r ≡ settle x
 known r x p f = let n = number_of x f in number_is r n.0 (p ∙ n.1) ∙ sym (ap settle n.1)
 
 module _ (a b : Scaled) where
@@ -41,6 +40,6 @@ pub settled_once : (x a t : Scaled) → settle (sum_with x (product_of a t)) ≡
 unfolding plus times
 settled_once x a t = go (product_of a t)
   where
-    go : (r : Rounded) → settle (sum_with x r) ≡ settle (sum_of x (settle r))
-    go (Number p) = refl
+    go : (r : Option Scaled) → settle (sum_with x r) ≡ settle (sum_of x (settle r))
+    go (Some p) = refl
     go None = sym (ap settle (sum_right_refused x no_number not_scaled))

@@ -1,9 +1,7 @@
 -- The elimination's operations on scaled numbers, and the matrix at each of its steps. Where an operation gives no number, a pair that is no
 -- scaled number stands in, so that "every number met is a scaled number" says that every operation had a result.
-use Rattle.std.specs.Prelude.{true, ◌≡◌, ℕ, zero, suc, ◌+◌, ◌-◌}
+use Rattle.std.specs.Prelude.{true, ◌≡◌, ℕ, zero, suc, ◌+◌, ◌-◌, Option, Some, None}
 use Rattle.scaled.specs.declared.Scaled.{Scaled}
-use Rattle.scaled.specs.declared.Rounded.{Rounded}
-use Rattle.scaled.specs.declared.Rounded.TheVariants.{Number, None}
 use Rattle.scaled.specs.Scaled.{zero_number, no_number, is_scaled, sum_of, product_of, quotient_of}
 use Rattle.scaled.specs.Units.{one_number}
 use Rattle.markov.specs.Elimination.{Ops, next}
@@ -12,8 +10,8 @@ use Rattle.markov.specs.Elimination.{Ops, next}
 abbrev pub Fit : Scaled → Type 0
 Fit x = is_scaled x ≡ true
 
-abbrev pub settle : Rounded → Scaled
-settle (Number x) = x
+abbrev pub settle : Option Scaled → Scaled
+settle (Some x) = x
 settle None = no_number
 
 unfoldable pub plus : Scaled → Scaled → Scaled

@@ -1,6 +1,5 @@
 -- Numbers in lent memory: a slice of their m and a slice of their e.
 use Rattle.std.specs.Prelude.{List, ℕ, ◌+◌, ◌*◌, ℤ, pos, get_or}
-use Rattle.std.specs.Borrow.{Bor}
 use Rattle.scaled.specs.declared.Scaled.{Scaled}
 
 pub record Slices : Type 0 where
@@ -9,10 +8,6 @@ pub record Slices : Type 0 where
 
 abbrev pub pair : List ℕ → List ℤ → Slices
 pair m e = record { m = m; e = e }
-
--- what two lent slices hold
-abbrev pub slices : Bor (List ℕ) → Bor (List ℤ) → Slices
-slices m e = pair m.now e.now
 
 -- the number at a place
 unfoldable pub number_at : Slices → ℕ → Scaled

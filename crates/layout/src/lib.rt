@@ -1,8 +1,8 @@
 // The stored forms of a chain: what their single bits and rates are (internal).
 #![tactic(auto)]
 
-ghost use Rattle.std.specs.Prelude.{◌≡◌, ◌+◌, ◌*◌, ◌/◌, ◌<◌, ◌≤◌, length, get_or};
-ghost use Rattle.layout.specs.Forms.{lead, short, width, form_in, order_in};
+ghost use Rattle.std.specs.Prelude.{◌≡◌, ◌+◌, ◌*◌, ◌/◌, ◌<◌, ◌≤◌, length};
+ghost use Rattle.layout.specs.Forms.{lead, short, width, form_in, order_in, form_number};
 ghost use Rattle.layout.specs.Bytes.{map_bytes, maps_of, bit_at, marked, short_rate, stored_rate, rate_at};
 
 // The two stored forms: in the second, rates below 65,536 are marked and take two bytes.
@@ -12,7 +12,20 @@ pub enum Form {
     Two,
 }
 
-// The form of a file with this first byte.
+// A form by its number.
+impl From<Form> for usize {
+    ghost from_gives = { λ form n. n ≡ form_number form };
+
+    fn from(form: Form) -> usize {
+        match form {
+            Form::One => 1,
+            Form::Two => 2,
+        }
+    }
+}
+
+// The form of a file with this first byte. It and the order are functions and no `TryFrom`: every first byte has both, and the order is
+// tested for itself, as refusal 1.
 pub fn form_in(first: usize) -> Form
     ensures { result ≡ form_in first }
 {
@@ -32,9 +45,16 @@ pub fn first_of(form: Form, n: usize) -> usize
     ensures { (result ≡ lead form + n) × (result ≤ 192) }
 {
     match form {
-        Form::One => 0 + n,
+        Form::One => n,
         Form::Two => 128 + n,
     }
+}
+
+// The bytes of one map of a row.
+pub fn map_bytes(n: usize) -> usize
+    ensures { result ≡ map_bytes n }
+{
+    n.div_ceil(8)
 }
 
 // The bytes of a row's maps.
@@ -42,10 +62,9 @@ pub fn maps_of(form: Form, n: usize) -> usize
     requires { n ≤ 64 }
     ensures { (result ≡ maps_of form n) × (result ≤ 16) }
 {
-    let width = (n + 7) / 8;
     match form {
-        Form::One => width,
-        Form::Two => width + width,
+        Form::One => map_bytes(n),
+        Form::Two => 2 * map_bytes(n),
     }
 }
 
@@ -86,21 +105,13 @@ pub fn bit_at(bytes: &[u8], map: usize, j: usize) -> bool
 
 // Whether the rate of column j is marked, in the row whose map begins at a place.
 pub fn is_marked(bytes: &[u8], form: Form, n: usize, map: usize, j: usize) -> bool
-    requires { (n ≤ 64) × (map + maps_of form n ≤ length bytes.now) × (j < 8 * map_bytes n) }
+    requires { (map + maps_of form n ≤ length bytes.now) × (j < 8 * map_bytes n) }
     ensures { result ≡ marked form bytes.now n map j }
 {
     match form {
         Form::One => false,
-        Form::Two => bit_at(bytes, map + (n + 7) / 8, j),
+        Form::Two => bit_at(bytes, map + map_bytes(n), j),
     }
-}
-
-// The byte at a place, as a wider number.
-fn byte_at(bytes: &[u8], place: usize) -> u32
-    requires { place < length bytes.now }
-    ensures { (result ≡ get_or bytes.now place 0) × (result < 256) }
-{
-    bytes[place] as u32
 }
 
 // The rate in two bytes from a place on, low byte first.
@@ -108,7 +119,7 @@ fn two_at(bytes: &[u8], place: usize) -> u32
     requires { place + 2 ≤ length bytes.now }
     ensures { result ≡ short_rate bytes.now place }
 {
-    byte_at(bytes, place) + 256 * byte_at(bytes, place + 1)
+    u16::from_le_bytes([bytes[place], bytes[place + 1]]).into()
 }
 
 // The rate in four bytes from a place on, low byte first.
@@ -116,10 +127,12 @@ fn four_at(bytes: &[u8], place: usize) -> u32
     requires { place + 4 ≤ length bytes.now }
     ensures { result ≡ stored_rate bytes.now place }
 {
-    byte_at(bytes, place)
-        + 256 * byte_at(bytes, place + 1)
-        + 65536 * byte_at(bytes, place + 2)
-        + 16777216 * byte_at(bytes, place + 3)
+    u32::from_le_bytes([
+        bytes[place],
+        bytes[place + 1],
+        bytes[place + 2],
+        bytes[place + 3],
+    ])
 }
 
 // The rate from a place on, in two bytes if it is marked and in four otherwise.

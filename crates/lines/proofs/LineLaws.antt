@@ -1,7 +1,7 @@
 -- The lines: their lengths, and those of the states put one after the other. Assumes nothing.
 use Prim.Native.Nat.{ℕ, suc, ◌+◌, ◌-◌, ◌^◌, ◌≤◌, ◌<◌}
 use mathlib.Core.List.{List, [], ◌∷◌, ◌++◌, append_assoc}
-use mathlib.Core.Path.{◌≡◌, refl, sym, ap₂, ◌∙◌}
+use mathlib.Core.Path.{◌≡◌, sym, ap₂, ◌∙◌}
 use native.Mathlib.Omega.{arith}
 use lib.IntN.{nat_abs}
 use lib.ListN.{length, length-append}
@@ -33,10 +33,6 @@ answer_size n K weight share = length-append (header_line n K) (state_lines weig
 
 -- ---- the line of a state, put in four parts
 
--- kept since the port: today the check finds what cited it
-pub fields_size : (x : Scaled) → length (fields x) ≡ 2 + length (decimal x.m) + length (signed x.e)
-fields_size x = simp length-append (omega arith)
-
 pub state_put : (n : ℕ) (w s : Scaled) {at p q r next : ℕ} {o o₁ o₂ o₃ after : List ℕ} → Puts o at (decimal n) o₁ p → Puts o₁ p (fields w) o₂ q
     → Puts o₂ q (fields s) o₃ r → Puts o₃ r (newline ∷ []) after next → Puts o at (state_line n w s) after next
 unfolding state_line
@@ -67,16 +63,10 @@ state_length number weight share a b c d e =
 
 -- before state i: what is left to put from p on is the lines of the states from i on
 pub record Rest (weight share : ℕ → Scaled) (n at : ℕ) (out₀ out : List ℕ) (p i : ℕ) : Type 0 where
-  pub seen : i ≤ n
-  pub size : length out ≡ length out₀
   pub out_is : sets out₀ at (state_lines weight share n 0) ≡ sets out p (state_lines weight share (n - i) i)
   pub next_is : at + length (state_lines weight share n 0) ≡ p + length (state_lines weight share (n - i) i)
 
 module _ (weight share : ℕ → Scaled) (n at : ℕ) (out₀ : List ℕ) where
-  -- kept since the port: today the check finds what cited it
-  pub rest_start : Rest weight share n at out₀ out₀ at 0
-  rest_start = let e : n - 0 ≡ n = omega arith in record { seen = omega arith; size = refl; out_is = rw e; next_is = rw e }
-
   module _ {out : List ℕ} {p i : ℕ} (h : Rest weight share n at out₀ out p i) where
     pub rest_end : n ≤ i → Puts out₀ at (state_lines weight share n 0) out p
     unfolding state_lines
@@ -92,15 +82,13 @@ module _ (weight share : ℕ → Scaled) (n at : ℕ) (out₀ : List ℕ) where
       size_here : length (state_lines weight share (n - i) i) ≡ length (state_line i w s) + length (state_lines weight share (n - (i + 1)) (i + 1))
       size_here = rw opened (length-append (state_line i w s) _)
 
-      pub rest_room : at + length (state_lines weight share n 0) ≤ length out₀ → p + length (state_line i w s) ≤ length out
-      rest_room room = omega (arith, h.next_is, h.size, size_here)
+      pub rest_room : at + length (state_lines weight share n 0) ≤ length out → p + length (state_line i w s) ≤ length out
+      rest_room room = omega (arith, h.next_is, size_here)
 
-      pub rest_next : {after : List ℕ} {next : ℕ} → length after ≡ length out₀ → Puts out p (state_line i w s) after next → Rest weight share n at out₀ after next (i + 1)
-      rest_next size put =
+      pub rest_next : {after : List ℕ} {next : ℕ} → Puts out p (state_line i w s) after next → Rest weight share n at out₀ after next (i + 1)
+      rest_next put =
           let rest = state_lines weight share (n - (i + 1)) (i + 1) in
           record {
-            seen = omega arith;
-            size = size;
             out_is = rw opened at h.out_is ∙ sets_append out p (state_line i w s) rest ∙ ap₂ (λ (o : List ℕ) (q : ℕ). sets o q rest) (sym put.out_is) (sym put.next_is);
             next_is = omega (arith, h.next_is, size_here, put.next_is);
           }

@@ -25,9 +25,9 @@ fn put_header(out: &mut [u8], at: usize, n: usize, bound: usize) -> usize
     requires { at + 15 + length (decimal n) + length (decimal bound) ≤ length out.old }
     ensures { Puts out.old at (header_line n bound) out.new result }
 {
-    let p = refused::put_text(out, at, b"states");
+    let p = decimal::put_text(out, at, b"states");
     let p = refused::put_field(out, p, n as u64);
-    let p = refused::put_text(out, p, b" bound");
+    let p = decimal::put_text(out, p, b" bound");
     let p = refused::put_field(out, p, bound as u64);
     decimal::put_byte(out, p, b'\n')
 }
@@ -43,7 +43,8 @@ fn put_state(out: &mut [u8], at: usize, number: usize, weight: Scaled, share: Sc
     decimal::put_byte(out, p, b'\n')
 }
 
-// The lines of states 0 to n - 1, whose weights and shares stand in the four slices.
+// The lines of states 0 to n - 1, whose weights and shares stand in the four slices: two pairs and no struct, as `solver::solve` is lent them
+// by C's interface.
 fn put_states(
     out: &mut [u8],
     at: usize,
@@ -58,12 +59,10 @@ fn put_states(
     ensures { Puts out.old at (state_lines (number_at (pair wm.now we.now)) (number_at (pair sm.now se.now)) n 0) out.new result }
 {
     let mut p = at;
-    let mut i = 0;
-    while i < n {
+    for i in 0..n {
         let weight = kernel::load(wm, we, i);
         let share = kernel::load(sm, se, i);
         p = put_state(out, p, i, weight, share);
-        i += 1;
     }
     p
 }

@@ -1,7 +1,7 @@
 -- The numbers of the places given to their states, from the top state down. Assumes nothing.
 use mathlib.Core.Bool.{Bool, true, false}
 use mathlib.Core.Logic.{⊎_elim}
-use mathlib.Core.Path.{◌≡◌, refl, sym, ap, ◌∙◌}
+use mathlib.Core.Path.{◌≡◌, sym, ap, ◌∙◌}
 use Prim.Native.Nat.{ℕ, ◌+◌, ◌≤◌, ◌<◌}
 use native.Mathlib.Nat.{eq-or-lt_of_le}
 use native.Mathlib.Omega.{arith}
@@ -11,7 +11,7 @@ use Rattle.markov.specs.Closed.{size, spread}
 use Rattle.markov.proofs.Members.{size_le}
 use Rattle.markov.proofs.SetBalance.{spread_in, spread_out}
 use Rattle.kernel.specs.Slices.{Slices, number_at}
-use Rattle.kernel.specs.Kernel.{Sized, Holds}
+use Rattle.kernel.specs.Kernel.{Sized}
 use Rattle.kernel.specs.Inner.{Placed}
 use Rattle.kernel.proofs.Places.{still_sized, placed_value}
 use Rattle.members.specs.Inner.{Given}
@@ -34,37 +34,26 @@ turn_out {set} {i} {s = s} h t q e =
 
 -- ---- all turns
 
--- the k top states have their numbers, `left` states of the set are below them, and the places there hold what they held
-pub record SpreadTo (n : ℕ) (set : ℕ → Bool) (k left : ℕ) (s s' : Slices) : Type 0 where
+-- the states from k on have their numbers, `left` states of the set are below them, and the places there hold what they held
+pub record SpreadFrom (n : ℕ) (set : ℕ → Bool) (k left : ℕ) (s s' : Slices) : Type 0 where
   pub sized : Sized n s'
-  pub next : (i : ℕ) → i + k ≡ n → left ≡ size i set
-  pub given_at : (i : ℕ) → i < n → n ≤ i + k → number_at s' i ≡ given set s i
-  pub kept_at : (i : ℕ) → i + k < n → number_at s' i ≡ number_at s i
-
-pub spread_none : {n : ℕ} {set : ℕ → Bool} {r : ℕ} {s : Slices} → r ≡ size n set → Sized n s → SpreadTo n set 0 r s s
-spread_none {n} q z = record {
-  sized = z;
-  next = λ i e. let w : i ≡ n = omega arith in rw w q;
-  given_at = λ i l h. absurd (omega arith);
-  kept_at = λ i l. refl;
-}
+  pub below : left ≡ size k set
+  pub given_at : (i : ℕ) → k ≤ i → i < n → number_at s' i ≡ given set s i
+  pub kept_at : (i : ℕ) → i < k → number_at s' i ≡ number_at s i
 
 -- a state's place is not above its number, so what it gets hangs on the places up to its number alone
 given_same : (set : ℕ → Bool) (i : ℕ) (s s' : Slices) → ((p : ℕ) → p ≤ i → number_at s' p ≡ number_at s p) → given set s' i ≡ given set s i
 unfolding spread
 given_same set i s s' h = rw (h (size i set) (size_le i set))
 
-pub spread_go : {n : ℕ} {set : ℕ → Bool} {k i left p : ℕ} {s s₁ s₂ : Slices} → i + (k + 1) ≡ n → SpreadTo n set k left s s₁ → Given set i p s₁ s₂
-    → SpreadTo n set (k + 1) p s s₂
+pub spread_go : {n : ℕ} {set : ℕ → Bool} {k i left p : ℕ} {s s₁ s₂ : Slices} → k ≡ i + 1 → SpreadFrom n set k left s s₁ → Given set i p s₁ s₂
+    → SpreadFrom n set i p s s₂
 spread_go {set = set} {i = i} {s = s} {s₁ = s₁} q h g = record {
   sized = still_sized h.sized g.put.kept;
-  next = λ j e. let w : j ≡ i = omega arith in rw w g.below;
-  given_at = λ j l b. ⊎_elim
+  below = g.below;
+  given_at = λ j b l. ⊎_elim
       (λ (z : i ≡ j). rw (← z) (g.put.same ∙ given_same set i s s₁ (λ a b. h.kept_at a (omega arith))))
-      (λ z. g.put.other j (λ w. omega arith) ∙ h.given_at j l (omega arith))
-      (eq-or-lt_of_le (omega arith));
+      (λ z. g.put.other j (λ w. omega arith) ∙ h.given_at j (omega arith) l)
+      (eq-or-lt_of_le b);
   kept_at = λ j l. g.put.other j (λ w. omega arith) ∙ h.kept_at j (omega arith);
 }
-
-pub spread_all : {n : ℕ} {set : ℕ → Bool} {k left : ℕ} {s s' : Slices} → n ≤ k → SpreadTo n set k left s s' → Holds n (given set s) s'
-spread_all q h = record { sized = h.sized; at = λ i l. h.given_at i l (omega arith) }

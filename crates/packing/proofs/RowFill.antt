@@ -1,20 +1,18 @@
 -- A row while it is filled in: what is still to be put, put on what stands now, gives what the whole row gives. Assumes nothing.
-use Prim.Native.Nat.{ℕ, suc, ◌+◌, ◌<◌, ◌≤◌}
+use Prim.Native.Nat.{ℕ, suc, ◌+◌, ◌<◌}
 use mathlib.Core.Bool.{Bool, true, false}
-use mathlib.Core.List.{List, [], ◌∷◌}
-use mathlib.Core.Path.{◌≡◌, refl, sym, ap, ◌∙◌}
+use mathlib.Core.List.{List, ◌∷◌}
+use mathlib.Core.Path.{◌≡◌, ap, ◌∙◌}
 use native.Mathlib.Omega.{arith}
 use native.Mathlib.Numerals.{add-one}
 use lib.ListN.{length, set, length-set}
 use lib.Seq.{sets}
 use Rattle.layout.specs.declared.Form.{Form}
 use Rattle.layout.specs.Forms.{width}
-use Rattle.layout.specs.Bytes.{maps_of, bit_at, marked, columns_from, stored_columns, stored_rates, row_end, stored_count, rate_at, rates_at, widths}
-use Rattle.packing.specs.Inner.{FilledRow}
-use Rattle.layout.proofs.Columns.{columns_end, columns_hit, columns_miss}
+use Rattle.layout.specs.Bytes.{bit_at, marked, columns_from, stored_columns, stored_rates, row_end, stored_count, rate_at, rates_at, widths}
+use Rattle.layout.proofs.Columns.{columns_hit, columns_miss}
 
 pub record Filling (form : Form) (bytes : List ℕ) (n map : ℕ) (columns₀ rates₀ : List ℕ) (p : ℕ) (columns rates : List ℕ) (j q place : ℕ) : Type 0 where
-  pub turn : j ≤ n
   pub here : q + length (columns_from bytes n map j) ≡ p + stored_count bytes n map
   pub from : place + widths (marked form bytes n map) (columns_from bytes n map j) ≡ row_end form bytes n map
   pub same_columns : length columns ≡ length columns₀
@@ -23,26 +21,11 @@ pub record Filling (form : Form) (bytes : List ℕ) (n map : ℕ) (columns₀ ra
   pub rates_to : sets rates₀ p (stored_rates form bytes n map) ≡ sets rates q (rates_at (marked form bytes n map) bytes (columns_from bytes n map j) place)
 
 module _ (form : Form) (bytes : List ℕ) (n map : ℕ) (columns₀ rates₀ : List ℕ) (p : ℕ) where
-  -- kept since the port: today the check finds what cited it
-  pub begin : (maps : ℕ) → maps ≡ maps_of form n → Filling form bytes n map columns₀ rates₀ p columns₀ rates₀ 0 p (map + maps)
-  begin maps e =
-      rw e
-      (record {
-        turn = omega arith;
-        here = refl;
-        from = refl;
-        same_columns = refl;
-        same_rates = refl;
-        columns_to = refl;
-        rates_to = refl;
-      })
-
   module _ (columns rates : List ℕ) (j q place : ℕ) (f : Filling form bytes n map columns₀ rates₀ p columns rates j q place) (l : j < n) where
-    pub miss : bit_at bytes map j ≡ false → Filling form bytes n map columns₀ rates₀ p columns rates (j + 1) q place
-    miss t =
+    pub bit_absent : bit_at bytes map j ≡ false → Filling form bytes n map columns₀ rates₀ p columns rates (j + 1) q place
+    bit_absent t =
         let s : columns_from bytes n map j ≡ columns_from bytes n map (j + 1) = columns_miss bytes n map j l t in
         record {
-          turn = omega arith;
           here = rw s at f.here;
           from = rw s at f.from;
           same_columns = f.same_columns;
@@ -62,10 +45,9 @@ module _ (form : Form) (bytes : List ℕ) (n map : ℕ) (columns₀ rates₀ : L
       wider : widths (marked form bytes n map) (columns_from bytes n map j) ≡ width mark + widths (marked form bytes n map) (columns_from bytes n map (j + 1))
       wider = ap (widths (marked form bytes n map)) after ∙ rw m
 
-      pub hit : Filling form bytes n map columns₀ rates₀ p (set columns q j) (set rates q (rate_at mark bytes place)) (j + 1) (q + 1) (place + width mark)
-      hit =
+      pub bit_put : Filling form bytes n map columns₀ rates₀ p (set columns q j) (set rates q (rate_at mark bytes place)) (j + 1) (q + 1) (place + width mark)
+      bit_put =
           record {
-            turn = omega arith;
             here = omega (arith, f.here, more);
             from = omega (arith, f.from, wider);
             same_columns = length-set columns q j ∙ f.same_columns;
@@ -74,26 +56,8 @@ module _ (form : Form) (bytes : List ℕ) (n map : ℕ) (columns₀ rates₀ : L
             rates_to = f.rates_to ∙ rw (after, add-one q, m);
           }
 
-      -- a bit that stands has its place and its bytes
-      -- kept since the port: today the check finds what cited it
-      pub room : (q < p + stored_count bytes n map) × (place + width mark ≤ row_end form bytes n map)
-      room = (omega (arith, f.here, more), omega (arith, f.from, wider))
-
-  -- kept since the port: today the check finds what cited it
-  pub done : (columns rates : List ℕ) (j q place : ℕ) → Filling form bytes n map columns₀ rates₀ p columns rates j q place → n ≤ j → FilledRow form bytes n map columns₀ rates₀ p q place columns rates
-  done columns rates j q place f h =
-      let s : columns_from bytes n map j ≡ [] = columns_end bytes n map j h in
-      let z : length (columns_from bytes n map j) ≡ 0 = ap length s in
-      let w : widths (marked form bytes n map) (columns_from bytes n map j) ≡ 0 = ap (widths (marked form bytes n map)) s in
-      record {
-        next = omega (arith, f.here);
-        end = omega (arith, f.from);
-        columns_are = sym (f.columns_to ∙ rw s);
-        rates_are = sym (f.rates_to ∙ rw s);
-      }
-
 -- the same at equal values, as where the ways of a branch meet
-pub moved : {form : Form} {bytes : List ℕ} {n map : ℕ} {columns₀ rates₀ : List ℕ} {p : ℕ} {columns rates columns' rates' : List ℕ} {j q place q' place' : ℕ}
+pub same_filling : {form : Form} {bytes : List ℕ} {n map : ℕ} {columns₀ rates₀ : List ℕ} {p : ℕ} {columns rates columns' rates' : List ℕ} {j q place q' place' : ℕ}
     → columns' ≡ columns → rates' ≡ rates → q' ≡ q → place' ≡ place
     → Filling form bytes n map columns₀ rates₀ p columns rates j q place → Filling form bytes n map columns₀ rates₀ p columns' rates' j q' place'
-moved e₁ e₂ e₃ e₄ f = rw (e₁, e₂, e₃, e₄) f
+same_filling e₁ e₂ e₃ e₄ f = rw (e₁, e₂, e₃, e₄) f

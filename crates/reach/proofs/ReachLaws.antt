@@ -7,9 +7,7 @@ use native.Mathlib.Omega.{arith}
 use lib.Dec.{ltb}
 use lib.ListN.{length, get_or}
 use borrow.Author.Tests.{lt-ltb, le-ltb, ltb-true, ltb-false, ne_eqb}
-use Rattle.refusal.specs.Table.{Verdict, Side, accepts, refuses, refusal, verdict}
-use Rattle.refusal.specs.declared.Outcome.{Outcome}
-use Rattle.refusal.specs.declared.Outcome.TheVariants.{Refused}
+use Rattle.refusal.specs.Table.{Verdict, Side, accepts, refuses, refusal}
 use Rattle.refusal.specs.declared.Refusal.{Refusal}
 use Rattle.refusal.specs.declared.Line.{Line}
 use Rattle.markov.specs.Chain.{Rates}
@@ -80,10 +78,10 @@ module _ (c : Rows) where
 
   -- ---- 1 to 4 and 14, then 6 from the masks; what is computed means what it says
 
-  pub rule_refused : {o : Outcome} {f : Refusal} → verdict o ≡ checked c → o ≡ Refused f → (verdict o ≡ answered c) × AnswerSays c (verdict o)
+  pub rule_refused : {v : Verdict ℕ} (f : Refusal) → v ≡ checked c → v ≡ refusal f → (v ≡ answered c) × AnswerSays c v
   unfolding answered
-  rule_refused {f = f} q t =
-      let e : checked c ≡ refusal f = sym q ∙ ap verdict t in
+  rule_refused f q t =
+      let e : checked c ≡ refusal f = sym q ∙ t in
       (rw (t, e), rw t (rule_broken (rw e at (checked_says c))))
 
   module _ {masks : List ℕ} (s : Accepted c) (h : Hold masks (via_below c.order (rate_in c) c.order)) where

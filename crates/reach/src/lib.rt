@@ -4,17 +4,18 @@
 ghost use Rattle.std.specs.Prelude.{◌≡◌, ◌&&◌, ◌||◌, not, ℕ, ◌+◌, ◌-◌, ◌<◌, ◌≤◌, length, get_or, eqb, ltb};
 ghost use Rattle.basics.specs.Sum.{sum};
 ghost use Rattle.basics.specs.Below.{all};
-ghost use Rattle.basics.specs.First.{first};
+ghost use Rattle.basics.specs.First.{found};
 ghost use Rattle.refusal.specs.Table.{verdict};
-ghost use Rattle.chain.specs.Rows.{in_rows};
-ghost use Rattle.chain.specs.Sound.{Sound, Accepted};
+ghost use Rattle.chain.specs.Rows.{rows_of};
+ghost use Rattle.chain.specs.Sound.{Accepted};
 ghost use Rattle.chain.specs.Meaning.{adds, rate_in};
 ghost use Rattle.reach.specs.Reach.{stands, bits, reaches, Hold, ReachMasks};
 ghost use Rattle.reach.specs.Inner.{via_below};
 ghost use Rattle.reach.specs.ClosedSets.{settles, is_lowest, first_lowest, lowest_set};
 ghost use Rattle.reach.specs.Answer.{one_closed, answered, set_of, AnswerSays};
 
-use refusal::{ChainReason, Outcome, Refusal};
+use chain::{Chain, SoundChain};
+use refusal::{ChainReason, Refusal};
 
 // One mask for each state, all 64 together: bit j of mask i stands if state i reaches state j.
 #[derive(Clone, Copy)]
@@ -51,8 +52,8 @@ fn with_entry(mask: u64, column: usize, rate: u32) -> u64
 // The mask of the state itself and of the states to which a positive rate leads from it; its entries stand at places `begin`
 // up to, not including, `end`.
 fn row_mask(row: usize, begin: usize, end: usize, columns: &[u32], rates: &[u32]) -> u64
-    requires row_bound { (row < 64) × (begin ≤ end) × (end ≤ length columns.now) × (end ≤ length rates.now) }
-    requires by_index { (p : ℕ) → begin ≤ p → p < end → get_or columns.now p 0 < 64 }
+    requires bounds { (row < 64) × (begin ≤ end) × (end ≤ length columns.now) × (end ≤ length rates.now) }
+    requires columns_low { (p : ℕ) → begin ≤ p → p < end → get_or columns.now p 0 < 64 }
     ensures { (j : ℕ) → stands result j ≡ (eqb row j || ltb 0 (sum (end - begin) (λ q. adds columns.now rates.now j (begin + q)))) }
 {
     let mut mask = set_bit(0, row);
@@ -63,15 +64,15 @@ fn row_mask(row: usize, begin: usize, end: usize, columns: &[u32], rates: &[u32]
 }
 
 // The masks before the first step of the closure.
-fn first_masks(n: usize, starts: &[u32], columns: &[u32], rates: &[u32]) -> Masks
-    requires { Sound (in_rows n starts columns rates) }
-    ensures { Hold result.rows (via_below n (rate_in (in_rows n starts.entry columns.entry rates.entry)) 0) }
+fn first_masks(sound: SoundChain) -> Masks
+    ensures { let c = rows_of sound.entry.chain in Hold result.rows (via_below c.order (rate_in c) 0) }
 {
+    let chain = sound.chain;
     let mut masks = Masks { rows: [0; 64] };
-    for i in 0..n {
-        let begin = starts[i] as usize;
-        let end = starts[i + 1] as usize;
-        masks.rows[i] = row_mask(i, begin, end, columns, rates);
+    for i in 0..chain.order {
+        let begin = chain.starts[i] as usize;
+        let end = chain.starts[i + 1] as usize;
+        masks.rows[i] = row_mask(i, begin, end, chain.columns, chain.rates);
     }
     masks
 }
@@ -84,12 +85,12 @@ fn close_row(row: u64, through: u64, k: usize) -> u64
     if test_bit(row, k) { row | through } else { row }
 }
 
-// The masks of a chain whose rules hold. Step k adds what state k reaches to each state that reaches k; from n on no mask has a bit.
-fn closure(n: usize, starts: &[u32], columns: &[u32], rates: &[u32]) -> Masks
-    requires { Sound (in_rows n starts columns rates) }
-    ensures { Hold result.rows (via_below n (rate_in (in_rows n starts.entry columns.entry rates.entry)) n) }
+// The masks of a sound chain. Step k adds what state k reaches to each state that reaches k; from n on no mask has a bit.
+fn closure(sound: SoundChain) -> Masks
+    ensures { let c = rows_of sound.entry.chain in Hold result.rows (via_below c.order (rate_in c) c.order) }
 {
-    let mut masks = first_masks(n, starts, columns, rates);
+    let n = sound.chain.order;
+    let mut masks = first_masks(sound);
     for k in 0..n {
         let through = masks.rows[k];
         for i in 0..n {
@@ -100,15 +101,14 @@ fn closure(n: usize, starts: &[u32], columns: &[u32], rates: &[u32]) -> Masks
 }
 
 // The states that each state reaches; no bit stands for a chain refused by 1 to 4 or 14.
-pub fn reach_masks(n: usize, starts: &[u32], columns: &[u32], rates: &[u32]) -> Masks
-    ensures bits { Hold result.rows (reaches (in_rows n starts.entry columns.entry rates.entry)) }
-    ensures meaning { ReachMasks (in_rows n starts.entry columns.entry rates.entry) result.rows }
+pub fn reach_masks(chain: Chain) -> Masks
+    ensures bits { Hold result.rows (reaches (rows_of chain.entry)) }
+    ensures meaning { ReachMasks (rows_of chain.entry) result.rows }
 {
-    let answer = chain::check(n, starts, columns, rates);
-    let Outcome::Done(_) = answer else {
+    let Ok(_) = chain.check() else {
         return Masks { rows: [0; 64] };
     };
-    closure(n, starts, columns, rates)
+    closure(SoundChain { chain })
 }
 
 // Whether no bit below i stands.
@@ -116,14 +116,7 @@ fn none_below(row: u64, i: usize) -> bool
     requires { i ≤ 64 }
     ensures { result ≡ all i (λ j. not (stands row j)) }
 {
-    let mut j = 0;
-    while j < i {
-        if test_bit(row, j) {
-            return false;
-        }
-        j += 1;
-    }
-    true
+    (0..i).all(|j| !test_bit(row, j))
 }
 
 // Whether state j reaches state i, if i reaches it.
@@ -143,14 +136,7 @@ fn settles(rows: &[u64], n: usize, i: usize) -> bool
     requires { (n ≤ 64) × (i < 64) × (length rows.now ≡ 64) }
     ensures { result ≡ settles n (bits rows.now) i }
 {
-    let mut j = 0;
-    while j < n {
-        if !comes_back(rows, i, j) {
-            return false;
-        }
-        j += 1;
-    }
-    true
+    (0..n).all(|j| comes_back(rows, i, j))
 }
 
 // Whether state i is the lowest state of a closed set.
@@ -158,31 +144,22 @@ fn is_lowest(rows: &[u64], n: usize, i: usize) -> bool
     requires { (n ≤ 64) × (i < 64) × (length rows.now ≡ 64) }
     ensures { result ≡ is_lowest n (bits rows.now) i }
 {
-    if !none_below(rows[i], i) {
-        return false;
-    }
-    settles(rows, n, i)
+    none_below(rows[i], i) && settles(rows, n, i)
 }
 
-// The first state from `from` on that is the lowest of a closed set, or the end of the search.
-fn next_lowest(rows: &[u64], from: usize, n: usize) -> usize
-    requires { (n ≤ 64) × (length rows.now ≡ 64) }
-    ensures { result ≡ first (is_lowest n (bits rows.now)) from n }
+// The first state from `from` on that is the lowest of a closed set.
+fn next_lowest(rows: &[u64], from: usize, n: usize) -> Option<usize>
+    requires { (from ≤ n) × (n ≤ 64) × (length rows.now ≡ 64) }
+    ensures { result ≡ found (is_lowest n (bits rows.now)) from n }
 {
-    let mut i = from;
-    while i < n {
-        if is_lowest(rows, n, i) {
-            return i;
-        }
-        i += 1;
-    }
-    i
+    (from..n).find(|&i| is_lowest(rows, n, i))
 }
 
 // The verdict of 1 to 4, 14 and 6, and the closed set of a chain that has an answer: bit i stands if state i is in it.
+// They stand side by side, and the set is in no `Ok`: where 6 refuses, `find_answer` promises the set too (its clause `set`).
 #[derive(Clone, Copy)]
 pub struct Answer {
-    pub outcome: Outcome,
+    pub outcome: Result<usize, Refusal>,
     pub set: u64,
 }
 
@@ -192,40 +169,36 @@ fn answer_from(masks: Masks, n: usize, entries: usize) -> Answer
     ensures { (verdict result.outcome ≡ one_closed n (bits masks.rows) entries) × ((i : ℕ) → stands result.set i ≡ lowest_set n (bits masks.rows) i) }
 {
     let rows = masks.rows;
-    let first = next_lowest(&rows, 0, n);
-    let second = next_lowest(&rows, first + 1, n);
+    let first = next_lowest(&rows, 0, n).unwrap();
     let set = rows[first];
-    if second < n {
-        return Answer {
-            outcome: Outcome::Refused(Refusal::Chain(ChainReason::ClosedSets(first, second))),
+    match next_lowest(&rows, first + 1, n) {
+        Some(second) => Answer {
+            outcome: Err(Refusal::Chain(ChainReason::ClosedSets(first, second))),
             set,
-        };
-    }
-    Answer {
-        outcome: Outcome::Done(entries),
-        set,
+        },
+        None => Answer {
+            outcome: Ok(entries),
+            set,
+        },
     }
 }
 
 // The verdict of `check_answer` where 1 to 4 and 14 were checked before, as `check_answer` and `solve` do, and the closed set.
-pub fn find_answer(n: usize, starts: &[u32], columns: &[u32], rates: &[u32]) -> Answer
-    requires { Accepted (in_rows n starts columns rates) }
-    ensures computed { verdict result.outcome ≡ answered (in_rows n starts.entry columns.entry rates.entry) }
-    ensures meaning { AnswerSays (in_rows n starts.entry columns.entry rates.entry) (verdict result.outcome) }
-    ensures set { (i : ℕ) → i < n → stands result.set i ≡ set_of (in_rows n starts.entry columns.entry rates.entry) i }
+pub fn find_answer(chain: Chain) -> Answer
+    requires { Accepted (rows_of chain) }
+    ensures computed { verdict result.outcome ≡ answered (rows_of chain.entry) }
+    ensures meaning { AnswerSays (rows_of chain.entry) (verdict result.outcome) }
+    ensures set { (i : ℕ) → i < chain.entry.order → stands result.set i ≡ set_of (rows_of chain.entry) i }
 {
-    answer_from(closure(n, starts, columns, rates), n, columns.len())
+    let masks = closure(SoundChain { chain });
+    answer_from(masks, chain.order, chain.columns.len())
 }
 
 // The first of 1 to 4, 14 and 6 that applies, or the number of entries of a chain that has an answer.
-pub fn check_answer(n: usize, starts: &[u32], columns: &[u32], rates: &[u32]) -> Outcome
-    ensures computed { verdict result ≡ answered (in_rows n starts.entry columns.entry rates.entry) }
-    ensures meaning { AnswerSays (in_rows n starts.entry columns.entry rates.entry) (verdict result) }
+pub fn check_answer(chain: Chain) -> Result<usize, Refusal>
+    ensures computed { verdict result ≡ answered (rows_of chain.entry) }
+    ensures meaning { AnswerSays (rows_of chain.entry) (verdict result) }
 {
-    let answer = chain::check(n, starts, columns, rates);
-    let Outcome::Done(_) = answer else {
-        return answer;
-    };
-    let found = find_answer(n, starts, columns, rates);
-    found.outcome
+    chain.check()?;
+    find_answer(chain).outcome
 }

@@ -12,7 +12,7 @@ use Rattle.refusal.specs.declared.BytesReason.{BytesReason}
 use Rattle.refusal.specs.declared.BytesReason.TheVariants as bytes
 use Rattle.refusal.specs.declared.Refusal.{Refusal}
 use Rattle.refusal.specs.declared.Refusal.TheVariants.{Chain, Bytes}
-use Rattle.refusal.specs.declared.Outcome.TheVariants.{Refused}
+use Rattle.std.specs.Prelude.{Err}
 use Rattle.refusal.specs.declared.Line.{Line}
 use Rattle.refusal.specs.Table.{of_chain, of_bytes, Verdict, accepts, refuses, line, verdict, Listed}
 
@@ -58,7 +58,7 @@ refusal_of (accepts k) = Chain chain.Order
 refusal_of (refuses of_chain l) = Chain (chain_reason l l.number)
 refusal_of (refuses of_bytes l) = Bytes (bytes_reason l l.number)
 
-told_again : (r : Refusal) → refusal_of (verdict (Refused r)) ≡ r
+told_again : (r : Refusal) → refusal_of (verdict (Err r)) ≡ r
 unfolding refusal_of chain_reason bytes_reason
 told_again (Chain chain.Order) = refl
 told_again (Chain chain.Lengths) = refl
@@ -79,7 +79,7 @@ told_again (Bytes bytes.Extra) = refl
 told_again (Bytes (bytes.ZeroRate row column)) = refl
 told_again (Bytes (bytes.Mark row bit)) = refl
 
-pub verdict_fixes : (r s : Refusal) → verdict (Refused s) ≡ verdict (Refused r) → s ≡ r
+pub verdict_fixes : (r s : Refusal) → verdict (Err s) ≡ verdict (Err r) → s ≡ r
 verdict_fixes r s e = sym (told_again s) ∙ ap refusal_of e ∙ told_again r
 
 -- kept since the port: today the check finds what cited it

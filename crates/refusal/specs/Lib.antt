@@ -1,2 +1,3 @@
 -- What the contracts of every call cite: document 01's number and two places for each refusal.
 pub mod Table
+pub mod Printed

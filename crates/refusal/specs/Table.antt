@@ -1,6 +1,6 @@
 -- Document 01, "Reasons for turning an input away", with those that requests add: the number and the two places of every refusal, and
 -- whose fault it is.
-use Rattle.std.specs.Prelude.{ℕ, List, ◌≢◌, ◌≡◌}
+use Rattle.std.specs.Prelude.{ℕ, List, Result, Ok, Err, ◌≢◌, ◌≡◌}
 use Rattle.std.proofs.lemmas.List.Edits.{sets}
 use Rattle.refusal.specs.declared.ChainReason.{ChainReason}
 use Rattle.refusal.specs.declared.ChainReason.TheVariants as chain
@@ -8,8 +8,6 @@ use Rattle.refusal.specs.declared.BytesReason.{BytesReason}
 use Rattle.refusal.specs.declared.BytesReason.TheVariants as bytes
 use Rattle.refusal.specs.declared.Refusal.{Refusal}
 use Rattle.refusal.specs.declared.Refusal.TheVariants.{Chain, Bytes}
-use Rattle.refusal.specs.declared.Outcome.{Outcome}
-use Rattle.refusal.specs.declared.Outcome.TheVariants.{Done, Refused}
 use Rattle.refusal.specs.declared.Line.{Line}
 
 -- a refusal's number and its two places (0, 0 unless named)
@@ -60,16 +58,16 @@ pub data Verdict (A : Type 0) : Type 0 where
 abbrev pub refusal : {A : Type 0} → Refusal → Verdict A
 refusal r = refuses (side r) (line r)
 
-abbrev pub verdict : Outcome → Verdict ℕ
-verdict (Done k) = accepts k
-verdict (Refused r) = refusal r
+abbrev pub verdict : Result ℕ Refusal → Verdict ℕ
+verdict (Ok k) = accepts k
+verdict (Err r) = refusal r
 
 -- What the table promises of the line l of a refusal r: 7, which R-7 took out, is the number of none, and the verdict fixes the case of the
 -- enum: no other refusal has that side, number and places.
 pub record Listed (r : Refusal) (l : Line) : Type 0 where
   pub line_is : l ≡ line r
   pub never_7 : l.number ≢ 7
-  pub the_only : (other : Refusal) → verdict (Refused other) ≡ refuses (side r) l → other ≡ r
+  pub the_only : (other : Refusal) → verdict (Err other) ≡ refuses (side r) l → other ≡ r
 
 -- a refusal is passed on; otherwise what is tried next decides
 abbrev pub and_then : {A B : Type 0} → Verdict A → (A → Verdict B) → Verdict B

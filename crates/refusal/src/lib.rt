@@ -48,14 +48,7 @@ pub enum Refusal {
     Bytes(BytesReason),
 }
 
-// What a call gives, or its refusal.
-#[derive(Clone, Copy)]
-pub enum Outcome {
-    Done(usize),
-    Refused(Refusal),
-}
-
-// A refusal as document 01's table lists it.
+// A refusal as document 01's table lists it. The number is what a call returns to C and what the programs print.
 #[derive(Clone, Copy)]
 pub struct Line {
     pub number: u32,
@@ -112,5 +105,17 @@ pub fn listed(refusal: Refusal) -> Line
     match refusal {
         Refusal::Chain(reason) => chain_line(reason),
         Refusal::Bytes(reason) => bytes_line(reason),
+    }
+}
+
+// In print: its number and its two places, with a blank between each two.
+impl std::fmt::Display for Line {
+    ghost use Rattle.std.specs.Prelude.{Some};
+    ghost use Rattle.refusal.specs.Printed.{line_text};
+
+    ghost output = { λ line. Some (line_text line) };
+
+    fn fmt<W: std::fmt::Write>(&self, f: &mut std::fmt::Formatter<W>) -> std::fmt::Result {
+        write!(f, "{} {} {}", self.number, self.first, self.second)
     }
 }

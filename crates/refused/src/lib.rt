@@ -9,19 +9,6 @@ ghost use Rattle.refused.specs.Refused.{blank, refused_line, longest_refused};
 
 use refusal::{Line, Refusal};
 
-// A text as it stands.
-pub fn put_text(out: &mut [u8], at: usize, text: &[u8]) -> usize
-    requires { at + length text.now ≤ length out.old }
-    ensures { Puts out.old at text.now out.new result }
-{
-    let mut i = 0;
-    while i < text.len() {
-        out[at + i] = text[i];
-        i += 1;
-    }
-    at + i
-}
-
 // A blank and a number.
 pub fn put_field(out: &mut [u8], at: usize, x: u64) -> usize
     requires { at + 1 + length (decimal x) ≤ length out.old }
@@ -36,7 +23,7 @@ fn put_refused(out: &mut [u8], at: usize, line: Line) -> usize
     requires { at + 11 + length (decimal line.number) + length (decimal line.first) + length (decimal line.second) ≤ length out.old }
     ensures { Puts out.old at (refused_line line) out.new result }
 {
-    let p = put_text(out, at, b"refused");
+    let p = decimal::put_text(out, at, b"refused");
     let p = put_field(out, p, line.number as u64);
     let p = put_field(out, p, line.first as u64);
     let p = put_field(out, p, line.second as u64);

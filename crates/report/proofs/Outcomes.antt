@@ -7,16 +7,13 @@ use native.Mathlib.Omega.{arith}
 use borrow.Author.Tests.{le-leb, lt-leb}
 use lib.ListN.{length, get_or}
 use Rattle.refusal.specs.Table.{line, accepts, refusal, verdict}
-use Rattle.refusal.specs.declared.Outcome.{Outcome}
-use Rattle.refusal.specs.declared.Outcome.TheVariants as outcome
+use Rattle.std.specs.Prelude.{Result, Ok, Err}
 use Rattle.refusal.specs.declared.Refusal.{Refusal}
 use Rattle.chain.specs.Rows.{Rows}
 use Rattle.chain.proofs.Reading.{accepted_sound}
 use Rattle.kernel.specs.Slices.{number_at}
 use Rattle.kernel.proofs.Cells.{square}
 use Rattle.storage.specs.declared.Reading.{Reading}
-use Rattle.storage.specs.declared.Reading.TheVariants as reading
-use Rattle.layout.specs.declared.Form.{Form}
 use Rattle.storage.specs.Reading.{Stored, told, Read}
 use Rattle.layout.specs.Buffers.{Buffers, most_starts, most_entries, chain_in}
 use Rattle.file_rules.specs.Sound.{zeros_refused}
@@ -51,19 +48,19 @@ room_enough {n} h a b c d e f =
       for_shares = record { for_m = omega arith; for_e = omega arith };
     }
 
-module _ {c : Rows} {old new : Lent} {r : Outcome} (s : Solved c old r new) (room : Roomy c.order old) where
+module _ {c : Rows} {old new : Lent} {r : Result ℕ Refusal} (s : Solved c old r new) (room : Roomy c.order old) where
   verdict_is : verdict r ≡ solved c true
   verdict_is = rw (roomy_held c.order old room) at s.answer
 
   -- a refused one
-  pub put_stopped : {f : Refusal} → r ≡ outcome.Refused f → {out after : List ℕ} {count : ℕ} → Puts out 0 (refused_line (line f)) after count × (count ≤ longest_refused)
+  pub put_stopped : {f : Refusal} → r ≡ Err f → {out after : List ℕ} {count : ℕ} → Puts out 0 (refused_line (line f)) after count × (count ≤ longest_refused)
       → Puts out 0 (solved_text c) after count × (count ≤ longest)
   unfolding solved_text
   put_stopped {f} q p =
       let v : solved c true ≡ refusal f = sym verdict_is ∙ ap verdict q in
       rw v (p.0, omega (arith, p.1))
 
-  module _ {K : ℕ} (q : r ≡ outcome.Done K) where
+  module _ {K : ℕ} (q : r ≡ Ok K) where
     accepted : verdict r ≡ accepts K
     accepted = ap verdict q
 
@@ -117,19 +114,19 @@ module _ {bytes : List ℕ} (small : (i : ℕ) → get_or bytes i 0 < 256) where
   }
 
 -- a reading into slices that have room for every chain
-module _ {bytes : List ℕ} {old new : Buffers} {r : Reading} (d : Read zeros_refused bytes old r new)
+module _ {bytes : List ℕ} {old new : Buffers} {r : Result Reading Refusal} (d : Read zeros_refused bytes old r new)
     (a : length old.starts ≡ most_starts) (b : length old.columns ≡ most_entries) (c : length old.rates ≡ most_entries) where
-  pub unread_text : {f : Refusal} → r ≡ reading.Refused f → refused_line (line f) ≡ report_of bytes
+  pub unread_text : {f : Refusal} → r ≡ Err f → refused_line (line f) ≡ report_of bytes
   unfolding report_of
   unread_text q = rw (file_refused d a b c q)
 
-  module _ {n entries : ℕ} {form : Form} (q : r ≡ reading.Chain n entries form) where
-    left : Stored zeros_refused form (chain_in new n entries) entries bytes
-    left = d.stored n entries form (ap told q)
+  module _ {reading : Reading} (q : r ≡ Ok reading) where
+    left : Stored zeros_refused reading.form (chain_in new reading.order reading.entries) reading.entries bytes
+    left = d.stored _ _ _ (ap told q)
 
-    pub order_low : n ≤ 64
-    order_low = (accepted_sound (chain_in new n entries) left.passes).order.high
+    pub order_low : reading.order ≤ 64
+    order_low = (accepted_sound (chain_in new reading.order reading.entries) left.passes).order.high
 
-    pub read_text : solved_text (chain_in new n entries) ≡ report_of bytes
+    pub read_text : {chain : Rows} → chain ≡ chain_in new reading.order reading.entries → solved_text chain ≡ report_of bytes
     unfolding report_of
-    read_text = rw (left.accepted, left.chain)
+    read_text e = rw (e, left.accepted, left.chain)

@@ -12,8 +12,7 @@ use lib.Signed.{lt_z}
 use lib.Pow.{pow_pos, pow-add}
 use borrow.Author.Tests.{eq-eqb, ne_eqb}
 use Rattle.scaled.specs.declared.Scaled.{Scaled}
-use Rattle.scaled.specs.declared.Rounded.{Rounded}
-use Rattle.scaled.specs.declared.Rounded.TheVariants.{None}
+use Rattle.std.specs.Prelude.{Option, None}
 use Rattle.scaled.specs.Scaled.{Exact, is_scaled_at, of_scaled, nearest, aligned_sum, exact_sum, exact_product, exact_quotient, rounded_sum, rounded_product, rounded_quotient}
 use Rattle.scaled.specs.Scaled.{zero_number, top_bit, is_scaled, sum_of, product_of, quotient_of}
 use Rattle.scaled.specs.Units.{one, val, NoneExactly}
@@ -184,13 +183,13 @@ module _ (h : ℕ) (hp : 0 < h) (a b : Scaled) where
   none_of : of_scaled h a b None ≡ None
   none_of = go (is_scaled_at h a) (is_scaled_at h b)
     where
-      go : (s t : Bool) → cond s (cond t None None) None ≡ None
+      go : (s t : Bool) → ◌≡◌ {A = Option Scaled} (cond s (cond t None None) None) None
       go true true = refl
       go true false = refl
       go false t = refl
 
   -- an answer y that is the rounded exact result, or none where that is divided by 0
-  met : (x : Exact) (y : Rounded) → (0 < x.q → y ≡ nearest h x) → (x.q ≡ 0 → y ≡ None) → RoundedToNearest h a b x (of_scaled h a b y)
+  met : (x : Exact) (y : Option Scaled) → (0 < x.q → y ≡ nearest h x) → (x.q ≡ 0 → y ≡ None) → RoundedToNearest h a b x (of_scaled h a b y)
   met x y made none = record {
     no_first = λ s. first_refused h a b y s;
     no_second = λ t. second_refused h a b y t;
@@ -220,7 +219,7 @@ module _ (h : ℕ) (hp : 0 < h) (a b : Scaled) where
 
 -- ---- what the three public operations promise
 
-module _ (a b : Scaled) {r : Rounded} where
+module _ (a b : Scaled) {r : Option Scaled} where
   pub sum_promised : r ≡ sum_of a b → (r ≡ sum_of a b) × (RoundedToNearest top_bit a b (exact_sum a b) r
       × (is_scaled a ≡ true → is_scaled b ≡ true → NoneExactly (val a + val b) 1 r))
   unfolding sum_of

@@ -8,7 +8,7 @@ use lib.IntN.{ℤ, pos, neg_ℤ, sub_ℕ, ◌+ℤ◌, ◌-ℤ◌, +ℤ_assoc}
 use lib.Pow.{pow_pos, pow-add}
 use borrow.Author.Tests.{eq-eqb, ne_eqb, lt-ltb, le-ltb}
 use Rattle.scaled.specs.Scaled.{zero_number, ranged, carried, upward, places, beyond, nearest}
-use Rattle.scaled.specs.declared.Rounded.TheVariants.{Number}
+use Rattle.std.specs.Prelude.{Some}
 use Rattle.scaled.proofs.Signed32.{order}
 use Rattle.scaled.proofs.Differences.{sub_pos, sub_eq, sub_add, neg_pos}
 use Rattle.scaled.proofs.CutLaws.{Cuts, powers, whole_cuts, same_place, same_digits, leading_cuts}
@@ -105,7 +105,7 @@ nearest_is h m s t p q u z pp qp w c = rw (ne_eqb p 0 (λ n. omega arith)) (ap�
         ∙ sym (ap₂ (λ (x y : ℤ). x +ℤ y) (neg_pos n) (sym (sub_pos k 0 k (omega arith))) ∙ sub_add 0 n k 0))
         ∙ sym (+ℤ_assoc z (neg_ℤ (pos n)) (pos k))
 
-pub nearest_zero : (h p q : ℕ) (z : ℤ) → p ≡ 0 → Number zero_number ≡ nearest h (record { p = p; q = q; z = z })
+pub nearest_zero : (h p q : ℕ) (z : ℤ) → p ≡ 0 → Some zero_number ≡ nearest h (record { p = p; q = q; z = z })
 unfolding nearest
 nearest_zero h p q z e = simp (eq-eqb p 0 e)
 

@@ -3,14 +3,11 @@
 #![tactic(auto)]
 
 fn main(rt: HostRuntime) {
-    let mut input = input::buffer();
-    let mut text = report::text_buffer();
-    let Ok(count) = input::read_input(&mut rt.stdin(), &mut input) else {
-        let _ = eprintln!(rt; "shares: could not read standard input");
-        return;
-    };
-    let n = report::report(&input[..count], &mut text);
-    if rt.write_all(&text[..n]).is_err() {
-        let _ = eprintln!(rt; "shares: could not write the result");
-    }
+    input::run(
+        &rt,
+        &mut rt.stdin(),
+        "shares",
+        &mut report::text_buffer(),
+        report::report,
+    );
 }

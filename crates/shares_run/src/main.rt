@@ -3,17 +3,11 @@
 
 use std::io;
 
-fn print_report(rt: HostRuntime, bytes: &[u8]) -> io::Result<()> {
-    let mut text = report::text_buffer();
-    let n = report::report(bytes, &mut text);
-    rt.write_all(&text[..n])
-}
-
 fn main(rt: HostRuntime) -> io::Result<()> {
-    let mut buffer = [0u8; layout::ENOUGH_BYTES];
-    framed::each_file(
+    input::run_each(
+        &rt,
         &mut rt.stdin(),
-        &mut buffer,
-        |bytes| print_report(rt, bytes),
+        &mut report::text_buffer(),
+        report::report,
     )
 }

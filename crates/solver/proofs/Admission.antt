@@ -1,56 +1,53 @@
 -- 1 to 4, 14, 5 and 6: what `admit` answers at each of its ways out. Assumes nothing.
 use mathlib.Core.Bool.{Bool, true, false}
-use mathlib.Core.Path.{◌≡◌, sym, ap, ◌∙◌}
-use Prim.Native.Nat.{ℕ, ◌<◌}
-use native.Mathlib.Omega.{arith}
+use mathlib.Core.Path.{◌≡◌, refl, sym, ap, subst, ◌∙◌}
+use Prim.Native.Nat.{ℕ}
+use Rattle.std.specs.Prelude.{Result, Ok, Err}
 use Rattle.refusal.specs.declared.ChainReason.TheVariants as chain
-use Rattle.refusal.specs.declared.Outcome.{Outcome}
-use Rattle.refusal.specs.declared.Outcome.TheVariants.{Done, Refused}
 use Rattle.refusal.specs.declared.Refusal.{Refusal}
 use Rattle.refusal.specs.declared.Refusal.TheVariants.{Chain}
 use Rattle.refusal.specs.Table.{Verdict, accepts, refusal, verdict}
 use Rattle.markov.specs.Count.{bound_count}
-use Rattle.markov.specs.Closed.{size}
 use Rattle.markov.proofs.SameSet.{size_cong}
 use Rattle.chain.specs.Rows.{Rows}
 use Rattle.chain.specs.Rules.{checked}
-use Rattle.reach.specs.Reach.{stands}
-use Rattle.reach.specs.Answer.{answered, set_of}
+use Rattle.reach.specs.Answer.{answered}
 use Rattle.solver.specs.Solve.{set_size, count_of, solved}
-use Rattle.solver.specs.Inner.{Admitted}
+use Rattle.solver.specs.declared.Found.{Found}
+use Rattle.solver.specs.Inner.{bound_of, IsFound, Admitted}
 
 -- what a call gave
-pub told : {r : Outcome} {k : ℕ} {v : Verdict ℕ} → r ≡ Done k → verdict r ≡ v → v ≡ accepts k
+pub told : {r : Result ℕ Refusal} {k : ℕ} {v : Verdict ℕ} → r ≡ Ok k → verdict r ≡ v → v ≡ accepts k
 told t q = sym q ∙ ap verdict t
 
 module _ (c : Rows) (room : Bool) where
   -- a refusal; it has no set
-  refuses_by : {r : Outcome} {f : Refusal} {mask : ℕ} → r ≡ Refused f → refusal f ≡ solved c room → Admitted c room r mask
-  refuses_by {r} {f} t e = record { answer = ap verdict t ∙ e; members = λ k a. absurd (never k a) }
+  refuses_by : {r : Result Found Refusal} {f : Refusal} → r ≡ Err f → refusal f ≡ solved c room → Admitted c room r
+  refuses_by {r} {f} t e = record { answer = ap verdict (ap bound_of t) ∙ e; found = λ k a. absurd (never k a) }
     where
-      never : (k : ℕ) → verdict r ≡ accepts k → ⊥
-      never k a = let u : verdict r ≡ verdict (Refused f) = ap verdict t in let z : ◌≡◌ {A = ℕ} 0 1 = cc in omega arith
+      never : (k : Found) → r ≡ Ok k → ⊥
+      never k a = let u : Ok k ≡ Err f = sym a ∙ t in cc
 
   -- 1 to 4 and 14
-  pub rules_refuse : {o r : Outcome} {f : Refusal} {mask : ℕ} → verdict o ≡ checked c → o ≡ Refused f → r ≡ o → Admitted c room r mask
+  pub rules_refuse : {r : Result Found Refusal} {f : Refusal} → refusal f ≡ checked c → r ≡ Err f → Admitted c room r
   unfolding solved
-  rules_refuse {f = f} q t e = let p : checked c ≡ refusal f = sym q ∙ ap verdict t in refuses_by (e ∙ t) (rw p)
+  rules_refuse q t = refuses_by t (rw (sym q))
 
   module _ {k : ℕ} (passed : checked c ≡ accepts k) where
     -- 5
-    pub room_refuses : {r : Outcome} {mask : ℕ} → room ≡ false → r ≡ Refused (Chain chain.Room) → Admitted c room r mask
+    pub room_refuses : room ≡ false → Admitted c room (Err (Chain chain.Room))
     unfolding solved
-    room_refuses b e = refuses_by e (rw (passed, b))
+    room_refuses b = refuses_by refl (rw (passed, b))
 
     -- 6
-    pub sets_refuse : {r : Outcome} {f : Refusal} {mask : ℕ} → room ≡ true → verdict r ≡ answered c → r ≡ Refused f → Admitted c room r mask
+    pub sets_refuse : {r : Result Found Refusal} {f : Refusal} → room ≡ true → refusal f ≡ answered c → r ≡ Err f → Admitted c room r
     unfolding solved
-    sets_refuse {f = f} b q t = let p : answered c ≡ refusal f = sym q ∙ ap verdict t in refuses_by t (rw (passed, b, p))
+    sets_refuse b q t = refuses_by t (rw (passed, b, sym q))
 
-    pub none_refuses : {j states count mask : ℕ} → room ≡ true → answered c ≡ accepts j → ((i : ℕ) → i < c.order → stands mask i ≡ set_of c i)
-        → states ≡ size c.order (stands mask) → count ≡ bound_count states → Admitted c room (Done count) mask
+    pub none_refuses : {j : ℕ} {found : Found} → room ≡ true → answered c ≡ accepts j → IsFound c found → found.bound ≡ bound_count found.size
+        → Admitted c room (Ok found)
     unfolding solved set_size count_of
-    none_refuses b e same s p = record {
-      answer = rw (passed, b, e) (ap accepts (p ∙ ap bound_count (s ∙ size_cong c.order same)));
-      members = λ k a. same;
+    none_refuses {found = found} b e is p = record {
+      answer = rw (passed, b, e) (ap accepts (p ∙ ap bound_count (is.size_is ∙ size_cong c.order is.members)));
+      found = λ f t. let same : found ≡ f = cc in subst (IsFound c) same is;
     }

@@ -1,13 +1,14 @@
 -- The contract of `solve` leaves one verdict and one content of every lent place: a program that gives anything else breaks it. Assumes
 -- nothing.
 use mathlib.Core.Path.{◌≡◌, sym, ◌∙◌}
-use Rattle.refusal.specs.declared.Outcome.{Outcome}
+use Rattle.std.specs.Prelude.{ℕ, Result}
+use Rattle.refusal.specs.declared.Refusal.{Refusal}
 use Rattle.refusal.specs.Table.{verdict}
 use Rattle.chain.specs.Rows.{Rows}
 use Rattle.solver.specs.Lent.{Lent}
 use Rattle.solver.specs.Solve.{Solved}
 
-pub determined : {c : Rows} {old : Lent} {r r₂ : Outcome} {new new₂ : Lent} → Solved c old r new → Solved c old r₂ new₂
+pub determined : {c : Rows} {old : Lent} {r r₂ : Result ℕ Refusal} {new new₂ : Lent} → Solved c old r new → Solved c old r₂ new₂
     → (verdict r ≡ verdict r₂) × (new ≡ new₂)
 determined {r = r} {r₂ = r₂} {new = new} {new₂ = new₂} a b =
     let v : verdict r ≡ verdict r₂ = a.answer ∙ sym b.answer in

@@ -13,8 +13,7 @@ use Rattle.markov.proofs.Positive.{pos_right}
 use Rattle.range.specs.Bounds.{most_states, margin}
 use Rattle.range.specs.Range.{Ample}
 use Rattle.scaled.specs.declared.Scaled.{Scaled}
-use Rattle.scaled.specs.declared.Rounded.{Rounded}
-use Rattle.scaled.specs.declared.Rounded.TheVariants.{Number, None}
+use Rattle.std.specs.Prelude.{Option, Some, None}
 use Rattle.scaled.specs.Scaled.{zero_number, sum_of, product_of, quotient_of}
 use Rattle.scaled.specs.Units.{val, one, smallest, limit, factor}
 use Rattle.scaled.proofs.Laws as laws
@@ -90,8 +89,8 @@ add_fits : (x y : Scaled) → Fit x → Fit y → val x + val y ≤ one * room �
 unfolding plus
 add_fits x y fx fy top = go (sum_of x y) refl
   where
-    go : (r : Rounded) → sum_of x y ≡ r → Fit (settle r)
-    go (Number r) e = laws.sum_scaled x y r e
+    go : (r : Option Scaled) → sum_of x y ≡ r → Fit (settle r)
+    go (Some r) e = laws.sum_scaled x y r e
     go None e = absurd (omega (arith, laws.sum_none x y fx fy e, high_end))
 
 left_le : (x y : Scaled) → Fit (plus x y) → val x ≤ val (plus x y)
@@ -108,8 +107,8 @@ mul_fits x y fx fy low top = go (product_of x y) refl
         omega arith
     out p (inr l) = omega (arith, mul-le-mul_right one high_end, laws.one_pos)
 
-    go : (r : Rounded) → product_of x y ≡ r → Fit (settle r)
-    go (Number r) e = laws.product_scaled x y r e
+    go : (r : Option Scaled) → product_of x y ≡ r → Fit (settle r)
+    go (Some r) e = laws.product_scaled x y r e
     go None e = let n = laws.product_none x y fx fy e in absurd (out n.0 n.1)
 
 div_fits : (x y : Scaled) → Fit x → Fit y → 0 < val y → (0 < val x → val y ≤ val x * room) → val x ≤ val y * room → Fit (divided_by x y)
@@ -120,8 +119,8 @@ div_fits x y fx fy pos low top = go (quotient_of x y) refl
     out p (inl l) = omega (arith, mul-le-mul_left smallest (low (pos_right one (val x) p)), mul-le-mul_left (val x) low_end)
     out p (inr l) = omega (arith, mul-le-mul_right (val y) high_end, mul-le-mul_left one top)
 
-    go : (r : Rounded) → quotient_of x y ≡ r → Fit (settle r)
-    go (Number r) e = laws.quotient_scaled x y r e
+    go : (r : Option Scaled) → quotient_of x y ≡ r → Fit (settle r)
+    go (Some r) e = laws.quotient_scaled x y r e
     go None e = let n = laws.quotient_none x y fx fy pos e in absurd (out n.0 n.1)
 
 pub ample : Ample ops one val Fit (2 ^ margin)

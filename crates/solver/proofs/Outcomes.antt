@@ -7,8 +7,7 @@ use native.Mathlib.Omega.{arith}
 use lib.IntN.{pos}
 use lib.ListN.{length, get_or, drop}
 use lib.Seq.{sets-eq}
-use Rattle.refusal.specs.declared.Outcome.{Outcome}
-use Rattle.refusal.specs.declared.Outcome.TheVariants.{Done, Refused}
+use Rattle.std.specs.Prelude.{Result, Ok, Err}
 use Rattle.refusal.specs.declared.Refusal.{Refusal}
 use Rattle.refusal.specs.Table.{Verdict, accepts, verdict, after}
 use Rattle.markov.specs.Chain.{Rates}
@@ -84,7 +83,7 @@ module _ {c : Rows} {set : ℕ → Bool} (same : (i : ℕ) → i < c.order → s
   unfolding entries set_size set_entries
   weighable {r} s o f e =
       let q : r ≡ size c.order (set_of c) = e ∙ size_cong c.order same in
-      record { sound = s; size_is = e; some = omega (arith, closed_size o); fits = rw (q, alone_cong c.order same (matrix_of c)) f }
+      record { size_is = e; some = omega (arith, closed_size o); fits = rw (q, alone_cong c.order same (matrix_of c)) f }
 
 accurate_cong : {n : ℕ} {rate : Rates} {set : ℕ → Bool} {count : ℕ} {w w' s s' : ℕ → Scaled} → last n set < n → ((i : ℕ) → i < n → w' i ≡ w i)
     → ((i : ℕ) → i < n → s' i ≡ s i) → Accurate n rate set count w s → Accurate n rate set count w' s'
@@ -102,9 +101,9 @@ accurate_cong {n} {set = set} b p q h = record {
 
 -- ---- the ways out
 
-module _ {c : Rows} {old : Lent} {r : Outcome} (q : verdict r ≡ solved c (enough_in c.order old)) where
+module _ {c : Rows} {old : Lent} {r : Result ℕ Refusal} (q : verdict r ≡ solved c (enough_in c.order old)) where
   -- after a refusal nothing has changed
-  pub solve_refused : {f : Refusal} → r ≡ Refused f → Solved c old r old
+  pub solve_refused : {f : Refusal} → r ≡ Err f → Solved c old r old
   solve_refused {f} t = record {
     answer = q;
     says = rw q (solved_says c old);
@@ -120,9 +119,9 @@ module _ {c : Rows} {old : Lent} {r : Outcome} (q : verdict r ≡ solved c (enou
   }
     where
       never : (k : ℕ) → verdict r ≡ accepts k → ⊥
-      never k a = let u : verdict r ≡ verdict (Refused f) = ap verdict t in let z : ◌≡◌ {A = ℕ} 0 1 = cc in omega arith
+      never k a = let u : verdict r ≡ verdict (Err f) = ap verdict t in let z : ◌≡◌ {A = ℕ} 0 1 = cc in omega arith
 
-  pub solve_done : {k : ℕ} {set : ℕ → Bool} {new : Lent} → r ≡ Done k → ((p : ℕ) → get_or c.rates p 0 < 4294967296)
+  pub solve_done : {k : ℕ} {set : ℕ → Bool} {new : Lent} → r ≡ Ok k → ((p : ℕ) → get_or c.rates p 0 < 4294967296)
       → ((i : ℕ) → i < c.order → set i ≡ set_of c i) → Ran c set new.work new.weights new.shares
       → Solved c old r (back c.order new old)
   solve_done {k} {new = new} t words same ran = record {

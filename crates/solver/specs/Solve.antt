@@ -1,12 +1,12 @@
 -- Document 01, changed by R-3, R-4, R-5 and R-7: what solving answers and what that says of the input, what it leaves in every lent place, and
 -- what is promised of an accepted chain (the owner's three demands).
-use Rattle.std.specs.Prelude.{Bool, true, false, cond, ◌≢◌, ◌⊎◌, ◌↔◌, ◌≡◌, ℕ, ◌+◌, ◌-◌, ◌*◌, ◌≤◌, ◌<◌, pos, nat_abs, replicate}
+use Rattle.std.specs.Prelude.{Bool, true, false, cond, ◌≢◌, ◌⊎◌, ◌↔◌, ◌≡◌, ℕ, ◌+◌, ◌-◌, ◌*◌, ◌≤◌, ◌<◌, pos, nat_abs, replicate, Result}
 use Rattle.basics.specs.Sum.{sum}
 use Rattle.basics.specs.Near.{Near}
 use Rattle.basics.specs.Lists.{table}
 use Rattle.refusal.specs.Table.{Verdict, Side, accepts, refuses, of_chain, numbered, verdict, and_then, after}
 use Rattle.refusal.specs.declared.Line.{Line}
-use Rattle.refusal.specs.declared.Outcome.{Outcome}
+use Rattle.refusal.specs.declared.Refusal.{Refusal}
 use Rattle.markov.specs.Chain.{Rates, Irreducible, Balances, InProportion}
 use Rattle.markov.specs.Closed.{OnlyClosed, HasAnswer, size, last, alone, set_weight, set_weights, set_shares}
 use Rattle.markov.specs.Weight.{weight}
@@ -147,7 +147,7 @@ pub record WholeChain (c : Rows) : Type 0 where
 
 -- ---- the contract of `solve`, with the lent slices as they were and as they are at exit
 
-pub record Solved (c : Rows) (old : Lent) (r : Outcome) (new : Lent) : Type 0 where
+pub record Solved (c : Rows) (old : Lent) (r : Result ℕ Refusal) (new : Lent) : Type 0 where
   pub answer : verdict r ≡ solved c (enough_in c.order old)
   pub says : SolveSays c old (verdict r)
   pub acceptance : Solvable c old ↔ (verdict r ≡ accepts (count_of c))

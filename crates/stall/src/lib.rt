@@ -8,6 +8,7 @@ ghost use Rattle.solver.specs.Lent.{lent};
 ghost use Rattle.group_shares.specs.GroupShares.{group_lent};
 ghost use Rattle.stall.specs.Calls.{SolveCalled, GroupsCalled, ReadCalled, WriteCalled, JoinCalled};
 
+use chain::Chain;
 use layout::Form;
 
 // Solves a chain, as `solver::solve` does: the answer's first place is the bound count.
@@ -29,7 +30,13 @@ pub extern "C" fn stall_solve(
         (lent m.old e.old wm.old we.old sm.old se.old) answer.old result
         (lent m.new e.new wm.new we.new sm.new se.new) answer.new }
 {
-    let outcome = solver::solve(n, starts, columns, rates, m, e, wm, we, sm, se);
+    let chain = Chain {
+        order: n,
+        starts,
+        columns,
+        rates,
+    };
+    let outcome = solver::solve(chain, m, e, wm, we, sm, se);
     telling::tell_count(outcome, answer)
 }
 
@@ -55,9 +62,13 @@ pub extern "C" fn stall_solve_groups(
         (group_lent m.old e.old wm.old we.old sm.old se.old gm.old ge.old) answer.old result
         (group_lent m.new e.new wm.new we.new sm.new se.new gm.new ge.new) answer.new }
 {
-    let outcome = group_shares::solve_groups(
-        n, starts, columns, rates, table, m, e, wm, we, sm, se, gm, ge,
-    );
+    let chain = Chain {
+        order: n,
+        starts,
+        columns,
+        rates,
+    };
+    let outcome = group_shares::solve_groups(chain, table, m, e, wm, we, sm, se, gm, ge);
     telling::tell_count(outcome, answer)
 }
 
@@ -90,11 +101,17 @@ pub extern "C" fn stall_write(
     ensures { WriteCalled Form.One (in_rows n starts.entry columns.entry rates.entry) out.old answer.old result
         out.new answer.new }
 {
-    let outcome = storage::write(Form::One, n, starts, columns, rates, out);
+    let chain = Chain {
+        order: n,
+        starts,
+        columns,
+        rates,
+    };
+    let outcome = storage::write(Form::One, chain, out);
     telling::tell_count(outcome, answer)
 }
 
-// Stores a chain, in form 2, as `storage::write` does: the answer's first place is the number of bytes.
+// Stores a chain, in form 2, as `storage::write` does; each form has an exported name of its own: the answer's first place is the number of bytes.
 #[unsafe(no_mangle)]
 pub extern "C" fn stall_write_short(
     n: usize,
@@ -107,7 +124,13 @@ pub extern "C" fn stall_write_short(
     ensures { WriteCalled Form.Two (in_rows n starts.entry columns.entry rates.entry) out.old answer.old result
         out.new answer.new }
 {
-    let outcome = storage::write(Form::Two, n, starts, columns, rates, out);
+    let chain = Chain {
+        order: n,
+        starts,
+        columns,
+        rates,
+    };
+    let outcome = storage::write(Form::Two, chain, out);
     telling::tell_count(outcome, answer)
 }
 
@@ -133,8 +156,18 @@ pub extern "C" fn stall_join(
         (buffers starts.old columns.old rates.old) answer.old result
         (buffers starts.new columns.new rates.new) answer.new }
 {
-    let joining = joint::join(
-        n1, starts1, columns1, rates1, n2, starts2, columns2, rates2, starts, columns, rates,
-    );
+    let first = Chain {
+        order: n1,
+        starts: starts1,
+        columns: columns1,
+        rates: rates1,
+    };
+    let second = Chain {
+        order: n2,
+        starts: starts2,
+        columns: columns2,
+        rates: rates2,
+    };
+    let joining = joint::join(first, second, starts, columns, rates);
     telling::tell_joining(joining, answer)
 }

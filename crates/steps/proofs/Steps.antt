@@ -2,7 +2,6 @@
 use mathlib.Core.Logic.{◌≢◌, ⊎_elim}
 use mathlib.Core.Path.{◌≡◌, sym, ap, ap₂, subst⁻¹, ◌∙◌}
 use Prim.Native.Nat.{ℕ, zero, suc, ◌+◌, ◌-◌, ◌≤◌, ◌<◌}
-use native.Mathlib.Decide.{ℕ_discrete}
 use native.Mathlib.Nat.{eq-or-lt_of_le, zero-add}
 use native.Mathlib.Numerals.{add-one}
 use native.Mathlib.Omega.{arith}
@@ -11,51 +10,8 @@ use Rattle.markov.specs.Elimination.{total, pivot_of, quotient_at, next}
 use Rattle.markov.specs.Promises.{FitsOn, AllFit}
 use Rattle.kernel.specs.Numbers.{ops, Fit, plus, times, divided_by, stage}
 use Rattle.kernel.specs.Slices.{Slices, entry_at}
-use Rattle.kernel.specs.Kernel.{Square, Put}
-use Rattle.updating.specs.Inner.{Mapped, updated, Ready, Updated}
 use Rattle.steps.specs.Inner.{pivot_at, next_at, Standing, Stepped, StagesFit, Eliminated}
-use Rattle.kernel.proofs.Entries.{kept_on, still_square}
 use Rattle.markov.proofs.Diagonal.{total_cong}
-
--- ---- one step from its parts
-
-module _ {n k : ℕ} {s s₁ : Slices} {v : Scaled} (hk : k < n) (start : Standing n k s) (sum : v ≡ pivot_at n s k) (p : Put n k k v s s₁) where
-  -- the quotients as they are worked out are those that the step meets
-  quotient_is : (b : ℕ) → k < b → b < n → divided_by (entry_at n s₁ k b) v ≡ divided_by (entry_at n s k b) (pivot_at n s k)
-  quotient_is b g hb = ap₂ divided_by (p.columns k b hk hb (λ z. omega arith)) sum
-
-  pub quotients_fit : (b : ℕ) → k < b → b < n → Fit (divided_by (entry_at n s₁ k b) v)
-  quotients_fit b g hb = subst⁻¹ Fit (quotient_is b g hb) (start.quotients b g hb)
-
-  module _ {s₂ : Slices} (q : Mapped n k (k + 1) n (λ b. divided_by (entry_at n s₁ k b) v) s₁ s₂) where
-    -- below row k nothing has changed yet
-    unchanged : (a b : ℕ) → k < a → a < n → b < n → entry_at n s₂ a b ≡ entry_at n s a b
-    unchanged a b l ha hb = q.rows a b ha hb (λ z. omega arith) ∙ p.rows a b ha hb (λ z. omega arith)
-
-    next_is : (a b : ℕ) → k < a → a < n → k < b → b < n → updated n s₂ k a b ≡ next_at n s k a b
-    next_is a b l ha g hb = ap₂ plus (unchanged a b l ha hb) (ap₂ times (unchanged a k l ha hk) (q.done b (omega arith) hb ∙ quotient_is b g hb))
-
-    pub ready : Ready n k (k + 1) s₂
-    ready = record {
-      square = still_square start.square (kept_on p.kept q.kept);
-      fits = λ a b l ha g hb d. subst⁻¹ Fit (next_is a b (omega arith) ha g hb) (start.nexts a b (omega arith) ha g hb d);
-    }
-
-    pub stepped : {s₃ : Slices} → Updated n k (k + 1) n s₂ s₃ → Stepped n k s s₃
-    stepped u = record {
-      kept = kept_on p.kept (kept_on q.kept u.kept);
-      pivot = u.columns k k hk (omega arith) hk ∙ q.earlier k (omega arith) hk ∙ p.same ∙ sum;
-      column = λ a l ha. u.columns a k ha (omega arith) hk ∙ unchanged a k l ha hk;
-      earlier = λ a b ha l. u.columns a b ha (omega arith) (omega arith) ∙ columns_before a b ha l;
-      entries = λ a b l ha g hb d. u.done a b (omega arith) ha g hb d ∙ next_is a b l ha g hb;
-    }
-      where
-        columns_before : (a b : ℕ) → a < n → b < k → entry_at n s₂ a b ≡ entry_at n s a b
-        columns_before a b ha l = go (ℕ_discrete a k)
-          where
-            go : Dec (a ≡ k) → entry_at n s₂ a b ≡ entry_at n s a b
-            go (yes z) = rw z (q.earlier b (omega arith) (omega arith) ∙ p.columns k b hk (omega arith) (λ w. omega arith))
-            go (no z) = q.rows a b ha (omega arith) z ∙ p.rows a b ha (omega arith) z
 
 -- ---- all steps
 
@@ -86,9 +42,8 @@ module _ {n k : ℕ} {x : ℕ → ℕ → Scaled} {s : Slices} (hk : k + 1 < n) 
       (ap₂ times (h.rest a k (suc i) zero (omega arith) (omega arith) ha (omega arith) (λ z. omega arith)) (quotient_at_is b j q hb))
 
   -- what step k meets, where every number of stage k is a scaled number
-  pub standing : Square n s → FitsOn ops Fit (n - (k + 1)) (stage n k x) → Standing n k s
-  standing q f = record {
-    square = q;
+  pub standing : FitsOn ops Fit (n - (k + 1)) (stage n k x) → Standing n k s
+  standing f = record {
     sums = record { at = λ c g. subst⁻¹ Fit (sum_is c g) (f.pivots c g) };
     quotients = λ b g hb. subst⁻¹ Fit (quotient_at_is b (b - (k + 1)) (omega arith) hb) (f.quotients (b - (k + 1)) (omega arith));
     nexts = λ a b l ha g hb d.

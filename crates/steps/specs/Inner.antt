@@ -6,7 +6,7 @@ use Rattle.markov.specs.Elimination.{total, pivot_of}
 use Rattle.markov.specs.Promises.{FitsOn}
 use Rattle.kernel.specs.Numbers.{ops, Fit, plus, times, divided_by, stage}
 use Rattle.kernel.specs.Slices.{Slices, entry_at}
-use Rattle.kernel.specs.Kernel.{Square, Kept, SumsFit}
+use Rattle.kernel.specs.Kernel.{Kept, SumsFit}
 
 -- the pivot of step k: the sum of the entries (k, j), j rising from k + 1
 unfoldable pub pivot_at : ℕ → Slices → ℕ → Scaled
@@ -18,7 +18,6 @@ next_at n s k a b = plus (entry_at n s a b) (times (entry_at n s a k) (divided_b
 
 -- before step k: every number that it will meet is a scaled number
 pub record Standing (n k : ℕ) (s : Slices) : Type 0 where
-  pub square : Square n s
   pub sums : SumsFit (n - (k + 1)) (λ j. entry_at n s k (k + 1 + j))
   pub quotients : (b : ℕ) → k < b → b < n → Fit (divided_by (entry_at n s k b) (pivot_at n s k))
   pub nexts : (a b : ℕ) → k < a → a < n → k < b → b < n → a ≢ b → Fit (next_at n s k a b)

@@ -10,13 +10,13 @@ use lib.ListN.{length, take}
 use borrow.Author.Tests.{le-leb}
 use Rattle.chain.specs.Rows.{Rows}
 use Rattle.refusal.specs.Table.{Verdict, accepts, refuses, side, line, refusal, verdict, and_then}
+use Rattle.std.specs.Prelude.{Result, Ok, Err}
 use Rattle.refusal.specs.declared.Refusal.{Refusal}
 use Rattle.layout.specs.declared.Form.{Form}
 use Rattle.layout.specs.Bytes.{form_of, order_of}
 use Rattle.layout.specs.File.{file_size}
 use Rattle.layout.specs.Buffers.{Buffers, most_starts, most_entries}
 use Rattle.storage.specs.declared.Reading.{Reading}
-use Rattle.storage.specs.declared.Reading.TheVariants as reading
 use Rattle.storage.specs.Reading.{told, Read}
 use Rattle.file_rules.specs.Sound.{zeros_refused}
 use Rattle.file_rules.specs.Verdict.{file_checked, read_verdict, HasRoom}
@@ -56,9 +56,9 @@ read_always zeros bytes (accepts e) h =
 read_always zeros bytes (refuses side line) h = rw h
 
 -- so where it is refused, the bytes are
-module _ {zeros : Bool} {bytes : List ℕ} {old new : Buffers} {r : Reading} (d : Read zeros bytes old r new)
+module _ {zeros : Bool} {bytes : List ℕ} {old new : Buffers} {r : Result Reading Refusal} (d : Read zeros bytes old r new)
     (a : length old.starts ≡ most_starts) (b : length old.columns ≡ most_entries) (c : length old.rates ≡ most_entries) where
-  pub file_refused : {f : Refusal} → r ≡ reading.Refused f → file_checked zeros bytes ≡ refusal f
+  pub file_refused : {f : Refusal} → r ≡ Err f → file_checked zeros bytes ≡ refusal f
   file_refused {f} q = go (file_checked zeros bytes) refl
     where
       told_is : told r ≡ refusal f
@@ -75,6 +75,6 @@ module _ {zeros : Bool} {bytes : List ℕ} {old new : Buffers} {r : Reading} (d 
           absurd (omega arith)
 
 -- and what is read has no more entries than a chain of 64 states can have
-pub read_few : {zeros : Bool} {bytes : List ℕ} {old new : Buffers} {r : Reading} {n e : ℕ} {form : Form} → Read zeros bytes old r new
-    → r ≡ reading.Chain n e form → e ≤ most_entries
-read_few {zeros} {bytes} {n = n} {e = e} {form = form} d q = file_few zeros bytes e (d.stored n e form (ap told q)).accepted
+pub read_few : {zeros : Bool} {bytes : List ℕ} {old new : Buffers} {r : Result Reading Refusal} {s : Reading} → Read zeros bytes old r new → r ≡ Ok s
+    → s.entries ≤ most_entries
+read_few {zeros} {bytes} {s = s} d q = file_few zeros bytes s.entries (d.stored s.order s.entries s.form (ap told q)).accepted

@@ -1,10 +1,10 @@
 -- Document 01, "Stored chains": what a reading answers, and what it leaves in the lent slices, where rates of 0 are refused or taken.
-use Rattle.std.specs.Prelude.{ℕ, ◌≤◌, Bool, cond, List, ◌≡◌, length}
+use Rattle.std.specs.Prelude.{ℕ, ◌≤◌, Bool, cond, List, ◌≡◌, length, Result, Ok, Err}
 use Rattle.chain.specs.Rows.{Rows}
 use Rattle.chain.specs.Rules.{rules_checked, checked}
 use Rattle.refusal.specs.Table.{Verdict, accepts, refusal, after}
+use Rattle.refusal.specs.declared.Refusal.{Refusal}
 use Rattle.storage.specs.declared.Reading.{Reading}
-use Rattle.storage.specs.declared.Reading.TheVariants.{Chain, Refused}
 use Rattle.layout.specs.declared.Form.{Form}
 use Rattle.layout.specs.Bytes.{form_of, chain_of}
 use Rattle.layout.specs.File.{file_of, file_size, most_bytes}
@@ -12,9 +12,9 @@ use Rattle.file_rules.specs.Verdict.{file_checked, read_verdict, ReadSays}
 use Rattle.layout.specs.Buffers.{Buffers, chain_in}
 
 -- document 01's account of a reading: the order, the number of entries and the form, or the refusal
-abbrev pub told : Reading → Verdict (ℕ × ℕ × Form)
-told (Chain order entries form) = accepts (order, entries, form)
-told (Refused r) = refusal r
+abbrev pub told : Result Reading Refusal → Verdict (ℕ × ℕ × Form)
+told (Ok s) = accepts (s.order, s.entries, s.form)
+told (Err r) = refusal r
 
 -- a chain with e entries and its file in a form: each is accepted and gives the other
 pub record Stored (zeros : Bool) (form : Form) (c : Rows) (e : ℕ) (bytes : List ℕ) : Type 0 where
@@ -28,7 +28,7 @@ pub record Stored (zeros : Bool) (form : Form) (c : Rows) (e : ℕ) (bytes : Lis
   pub at_most : length bytes ≤ most_bytes form
 
 -- what a reading answers, and the three slices at its exit
-pub record Read (zeros : Bool) (bytes : List ℕ) (old : Buffers) (r : Reading) (new : Buffers) : Type 0 where
+pub record Read (zeros : Bool) (bytes : List ℕ) (old : Buffers) (r : Result Reading Refusal) (new : Buffers) : Type 0 where
   pub answer : told r ≡ read_verdict zeros bytes (length old.starts) (length old.columns) (length old.rates)
   pub starts_are : new.starts ≡ after (told r) old.starts (chain_of bytes).starts
   pub columns_are : new.columns ≡ after (told r) old.columns (chain_of bytes).columns

@@ -3,79 +3,33 @@
 // room is lent than many a chain needs.
 #![tactic(auto)]
 
+use chain::Chain;
 use layout::Form;
-use refusal::{Outcome, Refusal};
 use std::io;
-use storage::Reading;
-
-fn print_refusal(rt: HostRuntime, refusal: Refusal) -> io::Result<()> {
-    let line = refusal::listed(refusal);
-    println!(rt; "refused {} {} {}", line.number, line.first, line.second)
-}
 
 // Writes a chain that was read in the form of its file, and says whether the bytes are those it was read from.
 fn write_back(
-    rt: HostRuntime,
+    rt: &impl Print,
     bytes: &[u8],
     form: Form,
-    order: usize,
-    starts: &[u32],
-    columns: &[u32],
-    rates: &[u32],
+    chain: Chain,
     out: &mut [u8],
 ) -> io::Result<()> {
-    match storage::write(form, order, starts, columns, rates, out) {
-        Outcome::Done(size) => {
-            if size == bytes.len() && out.starts_with(bytes) {
+    match storage::write(form, chain, out) {
+        Ok(size) => {
+            if out.get(..size) == Some(bytes) {
                 println!(rt; " same")
             } else {
                 println!(rt; " other")
             }
         }
-        Outcome::Refused(refusal) => {
-            print!(rt; " ")?;
-            print_refusal(rt, refusal)
-        }
+        Err(refusal) => println!(rt; " refused {}", refusal::listed(refusal)),
     }
-}
-
-fn form_number(form: Form) -> usize {
-    match form {
-        Form::One => 1,
-        Form::Two => 2,
-    }
-}
-
-fn print_chain(
-    rt: HostRuntime,
-    bytes: &[u8],
-    form: Form,
-    order: usize,
-    entries: usize,
-    starts: &[u32],
-    columns: &[u32],
-    rates: &[u32],
-    out: &mut [u8],
-) -> io::Result<()> {
-    print!(rt; "chain {order} {entries} {}", form_number(form))?;
-    if order < starts.len() && entries <= columns.len() && entries <= rates.len() {
-        write_back(
-            rt,
-            bytes,
-            form,
-            order,
-            &starts[..order + 1],
-            &columns[..entries],
-            &rates[..entries],
-            out,
-        )?;
-    }
-    Ok(())
 }
 
 // One line: what reading into these slices gives, and writing into that buffer.
 fn print_line(
-    rt: HostRuntime,
+    rt: &impl Print,
     bytes: &[u8],
     starts: &mut [u32],
     columns: &mut [u32],
@@ -83,39 +37,35 @@ fn print_line(
     out: &mut [u8],
 ) -> io::Result<()> {
     match storage::read(bytes, starts, columns, rates) {
-        Reading::Chain {
-            order,
-            entries,
-            form,
-        } => print_chain(rt, bytes, form, order, entries, starts, columns, rates, out),
-        Reading::Refused(refusal) => print_refusal(rt, refusal),
+        Ok(stored) => {
+            let form = usize::from(stored.form);
+            print!(rt; "chain {} {} {form}", stored.order, stored.entries)?;
+            let chain = stored.chain(starts, columns, rates);
+            write_back(rt, bytes, stored.form, chain, out)
+        }
+        Err(refusal) => println!(rt; "refused {}", refusal::listed(refusal)),
     }
 }
 
-// With room for every chain.
-fn with_room(rt: HostRuntime, bytes: &[u8]) -> io::Result<()> {
+// The line with room for every chain; and with room for up to 8 states, 20 columns, 12 rates and a file of 40 bytes.
+fn report(rt: &impl Print, bytes: &[u8]) -> io::Result<()> {
     let mut starts = [0u32; layout::MOST_STARTS];
     let mut columns = [0u32; layout::MOST_ENTRIES];
     let mut rates = [0u32; layout::MOST_ENTRIES];
     let mut out = [0u8; layout::LONGEST_FILE];
-    print_line(rt, bytes, &mut starts, &mut columns, &mut rates, &mut out)
-}
-
-// With room for up to 8 states, 20 columns, 12 rates and a file of 40 bytes.
-fn with_less(rt: HostRuntime, bytes: &[u8]) -> io::Result<()> {
-    let mut starts = [0u32; 9];
-    let mut columns = [0u32; 20];
-    let mut rates = [0u32; 12];
-    let mut out = [0u8; 40];
-    print_line(rt, bytes, &mut starts, &mut columns, &mut rates, &mut out)
-}
-
-fn report(rt: HostRuntime, bytes: &[u8]) -> io::Result<()> {
-    with_room(rt, bytes)?;
-    with_less(rt, bytes)
+    print_line(rt, bytes, &mut starts, &mut columns, &mut rates, &mut out)?;
+    let mut less = [0u8; 40];
+    print_line(
+        rt,
+        bytes,
+        &mut starts[..9],
+        &mut columns[..20],
+        &mut rates[..12],
+        &mut less,
+    )
 }
 
 fn main(rt: HostRuntime) -> io::Result<()> {
     let mut buffer = [0u8; layout::ENOUGH_BYTES];
-    framed::each_file(&mut rt.stdin(), &mut buffer, |bytes| report(rt, bytes))
+    framed::each_file(&mut rt.stdin(), &mut buffer, |bytes| report(&rt, bytes))
 }

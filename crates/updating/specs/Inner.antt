@@ -3,7 +3,7 @@ use Rattle.std.specs.Prelude.{◌≢◌, ◌≡◌, ℕ, ◌≤◌, ◌<◌}
 use Rattle.scaled.specs.declared.Scaled.{Scaled}
 use Rattle.kernel.specs.Numbers.{Fit, plus, times}
 use Rattle.kernel.specs.Slices.{Slices, entry_at}
-use Rattle.kernel.specs.Kernel.{Square, Kept}
+use Rattle.kernel.specs.Kernel.{Kept}
 
 -- the entries (i, b), b from `from` up to, not including, `to`, are now new b, and every other entry is as it was
 pub record Mapped (n i from to : ℕ) (new : ℕ → Scaled) (s s' : Slices) : Type 0 where
@@ -19,7 +19,6 @@ updated n s k i j = plus (entry_at n s i j) (times (entry_at n s i k) (entry_at 
 
 -- what updating the rows from `from` on asks: each new entry is a scaled number
 pub record Ready (n k from : ℕ) (s : Slices) : Type 0 where
-  pub square : Square n s
   pub fits : (a b : ℕ) → from ≤ a → a < n → k < b → b < n → a ≢ b → Fit (updated n s k a b)
 
 -- the rows from `from` up to, not including, `to` are updated to the right of column k, off the diagonal; the other rows, and

@@ -1,89 +1,74 @@
 // Algorithm GTH on lent slices, for a caller who knows that every number met is a scaled number: the rows below a pivot updated (internal).
 #![tactic(auto)]
 
-ghost use Rattle.std.specs.Prelude.{◌≡◌, ℕ, ◌+◌, ◌<◌, ◌≤◌, true};
+ghost use Rattle.std.specs.Prelude.{◌≡◌, ℕ, ◌+◌, ◌<◌, ◌≤◌};
 ghost use Rattle.scaled.specs.declared.Scaled.{Scaled};
-ghost use Rattle.scaled.specs.Scaled.{is_zero};
 ghost use Rattle.kernel.specs.Numbers.{Fit, plus, times};
-ghost use Rattle.kernel.specs.Slices.{pair, slices, entry_at};
 ghost use Rattle.kernel.specs.Kernel.{Square, Put};
+ghost use Rattle.kernel.specs.Slices.{pair, entry_at};
+ghost use Rattle.kernel.specs.Lent.{cells, entry_of, Rewritten};
 ghost use Rattle.updating.specs.Inner.{Mapped, updated, Ready, Updated};
 
-use kernel::{entry, plus_times_of, put};
+use kernel::{Matrix, plus_times_of};
 use scaled::Scaled;
 
 // Adds a times t(j) to entry (i, j).
-fn update_at(m: &mut [u32], e: &mut [i32], n: usize, k: usize, i: usize, a: Scaled, j: usize)
-    requires square { Square n (pair m.old e.old) }
-    requires k_lt_n { (k < n) × (i < n) × (j < n) }
-    requires fit { Fit (plus (entry_at n (pair m.old e.old) i j) (times a (entry_at n (pair m.old e.old) k j))) }
-    ensures { Put n i j
-        (plus (entry_at n (pair m.old e.old) i j) (times a (entry_at n (pair m.old e.old) k j)))
-        (pair m.old e.old) (pair m.new e.new) }
+fn update_at(x: &mut Matrix, k: usize, i: usize, a: Scaled, j: usize)
+    requires inside { (k < x.old.order) × (i < x.old.order) × (j < x.old.order) }
+    requires fit { Fit (plus (entry_of x.old i j) (times a (entry_of x.old k j))) }
+    ensures { Rewritten (Put x.old.order i j (plus (entry_of x.old i j) (times a (entry_of x.old k j)))) x.old x.new }
 {
-    let x = plus_times_of(entry(m, e, n, i, j), a, entry(m, e, n, k, j));
-    put(m, e, n, i, j, x);
+    let sum = plus_times_of(x.entry(i, j), a, x.entry(k, j));
+    x.put(i, j, sum);
 }
 
-// Adds entry (i, k) times t(j) to the entries (i, j), j from `from` up to, not including, `to`; a is entry (i, k).
+// Adds entry (i, k) times t(j) to the entries (i, j), j from `from` up to, not including, `to`; a is entry (i, k). This loop takes most of the time of
+// a solve. The matrix is lent in its parts and made anew, since through a `&mut Matrix` each turn would read again where the slices lie; and it
+// stands by itself, since built into its callers it keeps fewer of its values in registers. Both were tried, and slower.
+#[inline(never)]
 fn update_part(
+    order: usize,
     m: &mut [u32],
     e: &mut [i32],
-    n: usize,
     k: usize,
     i: usize,
     a: Scaled,
     from: usize,
     to: usize,
 )
-    requires square { Square n (pair m.old e.old) }
-    requires k_lt_i { (k < i) × (i < n) × (k < from) × (to ≤ n) × (from ≤ to) × (a ≡ entry_at n (pair m.old e.old) i k) }
-    requires by_index { (b : ℕ) → from ≤ b → b < to → Fit (updated n (pair m.old e.old) k i b) }
-    ensures { Mapped n i from to (λ b. updated n (pair m.old e.old) k i b) (pair m.old e.old) (pair m.new e.new) }
+    requires square { Square order (pair m.old e.old) }
+    requires inside { (k < i) × (i < order) × (k < from) × (to ≤ order) × (from ≤ to) }
+    requires factor { a ≡ entry_at order (pair m.old e.old) i k }
+    requires each_fits { (b : ℕ) → from ≤ b → b < to → Fit (updated order (pair m.old e.old) k i b) }
+    ensures { Mapped order i from to (updated order (pair m.old e.old) k i) (pair m.old e.old) (pair m.new e.new) }
 {
-    let mut j = from;
-    while j < to {
-        update_at(m, e, n, k, i, a, j);
-        j += 1;
+    let mut x = Matrix { order, m, e };
+    for j in from..to {
+        update_at(&mut x, k, i, a, j);
     }
 }
 
 // Updates row i: entry (i, k) times t(j) is added to entry (i, j), j above k and not i.
-fn update_row(m: &mut [u32], e: &mut [i32], n: usize, k: usize, i: usize)
-    requires ready { Ready n k i (pair m.old e.old) }
-    requires k_lt_i { (k < i) × (i < n) }
-    ensures { Updated n k i (i + 1) (pair m.old e.old) (pair m.new e.new) }
+fn update_row(x: &mut Matrix, k: usize, i: usize)
+    requires ready { Ready x.old.order k i (cells x.old) }
+    requires inside { (k < i) × (i < x.old.order) }
+    ensures { Rewritten (Updated x.old.order k i (i + 1)) x.old x.new }
 {
-    let a = entry(m, e, n, i, k);
-    update_part(m, e, n, k, i, a, k + 1, i);
-    update_part(m, e, n, k, i, a, i + 1, n);
-}
-
-// The first row from `from` on whose entry in column k is not Zero, or n.
-fn next_row(m: &[u32], e: &[i32], n: usize, k: usize, from: usize) -> usize
-    requires square { Square n (slices m e) }
-    requires k_lt_n { (k < n) × (from ≤ n) }
-    ensures { (from ≤ result) × (result ≤ n) × ((a : ℕ) → from ≤ a → a < result → is_zero (entry_at n (pair m.now e.now) a k) ≡ true) }
-{
-    let mut i = from;
-    while i < n {
-        if !scaled::is_zero(entry(m, e, n, i, k)) {
-            return i;
-        }
-        i += 1;
-    }
-    i
+    let a = x.entry(i, k);
+    let n = x.order;
+    update_part(x.order, x.m, x.e, k, i, a, k + 1, i);
+    update_part(x.order, x.m, x.e, k, i, a, i + 1, n);
 }
 
 // Updates the rows below row k. A row whose entry in column k is Zero stays as it is.
-pub fn update_rows(m: &mut [u32], e: &mut [i32], n: usize, k: usize)
-    requires ready { Ready n k (k + 1) (pair m.old e.old) }
-    requires k_lt_n { k < n }
-    ensures { Updated n k (k + 1) n (pair m.old e.old) (pair m.new e.new) }
+pub fn update_rows(x: &mut Matrix, k: usize)
+    requires ready { Ready x.old.order k (k + 1) (cells x.old) }
+    requires inside { k < x.old.order }
+    ensures { Rewritten (Updated x.old.order k (k + 1) x.old.order) x.old x.new }
 {
-    let mut i = next_row(m, e, n, k, k + 1);
-    while i < n {
-        update_row(m, e, n, k, i);
-        i = next_row(m, e, n, k, i + 1);
+    for i in k + 1..x.order {
+        if !scaled::is_zero(x.entry(i, k)) {
+            update_row(x, k, i);
+        }
     }
 }

@@ -5,7 +5,7 @@ use Rattle.markov.specs.Elimination.{total}
 use Rattle.markov.specs.Promises.{AllFit}
 use Rattle.kernel.specs.Numbers.{ops, Fit, times, divided_by}
 use Rattle.kernel.specs.Slices.{Slices, number_at, entry_at}
-use Rattle.kernel.specs.Kernel.{Square, Sized, SumsFit}
+use Rattle.kernel.specs.Kernel.{Sized, SumsFit}
 use Rattle.steps.specs.Inner.{Eliminated}
 
 -- the sum, j rising from k + 1, of weight j times entry (j, k)
@@ -23,7 +23,6 @@ pub record FlowFits (n : ℕ) (s w : Slices) (k : ℕ) : Type 0 where
 
 -- what back substitution asks: the slices hold what the steps left of a matrix x for which every number met is a scaled number
 pub record Backed (n : ℕ) (s w : Slices) : Type 0 where
-  pub square : Square n s
   pub sized : Sized n w
   pub some : zero < n
   pub x : ℕ → ℕ → Scaled

@@ -1,5 +1,6 @@
 -- What each field of the contract of `solve_groups` says of case 7 with its table, with lent slices of unequal lengths, and of inputs that are
 -- refused, as CasesSolved for `solve`. Assumes nothing.
+use Rattle.std.specs.Prelude.{Err, Ok, Result}
 use mathlib.Core.Bool.{Bool, true, false, false≢true}
 use mathlib.Core.List.{[], ◌∷◌}
 use mathlib.Core.Path.{◌≡◌, refl, sym, ap, ◌∙◌}
@@ -13,8 +14,7 @@ use Rattle.basics.specs.Below.{count, all}
 use Rattle.basics.specs.Near.{Near}
 use Rattle.basics.specs.Lists.{table}
 use Rattle.refusal.specs.Table.{accepts, refuses, of_chain, numbered, verdict}
-use Rattle.refusal.specs.declared.Outcome.{Outcome}
-use Rattle.refusal.specs.declared.Outcome.TheVariants.{Done, Refused}
+use Rattle.refusal.specs.declared.Refusal.{Refusal}
 use Rattle.refusal.specs.declared.Refusal.TheVariants.{Chain}
 use Rattle.refusal.specs.declared.ChainReason.TheVariants as chain
 use Rattle.scaled.specs.Scaled.{zero_number, bit_length_up_to, bit_length, is_scaled_at, upward, carried, nearest, rounded_sum, rounded_product, rounded_quotient}
@@ -55,52 +55,52 @@ short7g = record { solving = lent7; groups = pair (replicate 16 7) (replicate 15
 
 -- ---- the answer, computed and as facts
 
-pub answer_7 : {r : Outcome} {new : GroupLent} → GroupsSolved chain7 table7 lent7g r new → verdict r ≡ accepts 8
+pub answer_7 : {r : Result ℕ Refusal} {new : GroupLent} → GroupsSolved chain7 table7 lent7g r new → verdict r ≡ accepts 8
 unfolding groups_solved table_checked row_bad holders solved enough count_of set_size size count bound_count
     checked rules_checked starts_sound columns_checked entry_bad zeros_checked rate_in answered one_closed set_of lowest_set first_lowest second_lowest is_lowest settles all via sum
 answer_7 s = s.answer
 
-pub says_7 : {r : Outcome} {new : GroupLent} → GroupsSolved chain7 table7 lent7g r new → verdict r ≡ accepts 8
+pub says_7 : {r : Result ℕ Refusal} {new : GroupLent} → GroupsSolved chain7 table7 lent7g r new → verdict r ≡ accepts 8
 unfolding groups_solved table_checked row_bad holders solved enough count_of set_size size count bound_count
     checked rules_checked starts_sound columns_checked entry_bad zeros_checked rate_in answered one_closed set_of lowest_set first_lowest second_lowest is_lowest settles all via sum
 says_7 s = says_solved chain7 table7 lent7g s.says
 
 -- fifteen places for e are 5
-pub answer_short : {r : Outcome} {new : GroupLent} → GroupsSolved chain7 table7 short7g r new → verdict r ≡ refuses of_chain (numbered 5 0 0)
+pub answer_short : {r : Result ℕ Refusal} {new : GroupLent} → GroupsSolved chain7 table7 short7g r new → verdict r ≡ refuses of_chain (numbered 5 0 0)
 unfolding groups_solved table_checked row_bad holders solved enough checked rules_checked starts_sound columns_checked entry_bad zeros_checked sum count
 answer_short s = s.answer
 
-pub says_short : {r : Outcome} {new : GroupLent} → GroupsSolved chain7 table7 short7g r new → verdict r ≡ refuses of_chain (numbered 5 0 0)
+pub says_short : {r : Result ℕ Refusal} {new : GroupLent} → GroupsSolved chain7 table7 short7g r new → verdict r ≡ refuses of_chain (numbered 5 0 0)
 unfolding groups_solved table_checked row_bad holders solved enough checked rules_checked starts_sound columns_checked entry_bad zeros_checked sum count
 says_short s = says_solved chain7 table7 short7g s.says
 
 -- ---- acceptance, both ways, for any lent slices
 
 module _ {l new : GroupLent} where
-  pub accepted_7 : {r : Outcome} → GroupsSolved chain7 table7 l r new → GroupsSolvable chain7 table7 l → verdict r ≡ accepts 8
+  pub accepted_7 : {r : Result ℕ Refusal} → GroupsSolved chain7 table7 l r new → GroupsSolvable chain7 table7 l → verdict r ≡ accepts 8
   accepted_7 s h = s.acceptance.0 h ∙ ap accepts count_7
 
-  solvable_7 : GroupsSolved chain7 table7 l (Done 8) new → GroupsSolvable chain7 table7 l
+  solvable_7 : GroupsSolved chain7 table7 l (Ok 8) new → GroupsSolvable chain7 table7 l
   solvable_7 s = s.acceptance.1 (ap accepts (sym count_7))
 
-  pub rules_hold_7 : GroupsSolved chain7 table7 l (Done 8) new → Accepted chain7
+  pub rules_hold_7 : GroupsSolved chain7 table7 l (Ok 8) new → Accepted chain7
   rules_hold_7 s = (solvable_7 s).accepted
 
-  pub table_sound_7 : GroupsSolved chain7 table7 l (Done 8) new → SoundTable 3 table7
+  pub table_sound_7 : GroupsSolved chain7 table7 l (Ok 8) new → SoundTable 3 table7
   table_sound_7 s = (solvable_7 s).table_sound
 
-  pub has_answer_7 : GroupsSolved chain7 table7 l (Done 8) new → HasAnswer 3 (rate_in chain7)
+  pub has_answer_7 : GroupsSolved chain7 table7 l (Ok 8) new → HasAnswer 3 (rate_in chain7)
   has_answer_7 s = (solvable_7 s).answer
 
-  pub group_places_7 : GroupsSolved chain7 table7 l (Done 8) new → (16 ≤ length l.groups.m) × (16 ≤ length l.groups.e)
+  pub group_places_7 : GroupsSolved chain7 table7 l (Ok 8) new → (16 ≤ length l.groups.m) × (16 ≤ length l.groups.e)
   group_places_7 s = let room = (solvable_7 s).room in (room.for_groups.for_m, room.for_groups.for_e)
 
-  pub share_places_7 : GroupsSolved chain7 table7 l (Done 8) new → 3 ≤ length l.solving.shares.e
+  pub share_places_7 : GroupsSolved chain7 table7 l (Ok 8) new → 3 ≤ length l.solving.shares.e
   share_places_7 s = (solvable_7 s).room.for_solving.for_shares.for_e
 
 -- ---- every lent place
 
-module _ {new : GroupLent} (s : GroupsSolved chain7 table7 lent7g (Done 8) new) where
+module _ {new : GroupLent} (s : GroupsSolved chain7 table7 lent7g (Ok 8) new) where
   pub work_7 : new.solving.work ≡ pair (0 ∷ 0 ∷ 0 ∷ 0 ∷ 0 ∷ 0 ∷ 0 ∷ 0 ∷ 0 ∷ 7 ∷ 7 ∷ []) (replicate 9 (pos 0))
   work_7 = s.work
 
@@ -129,13 +129,13 @@ module _ {new : GroupLent} (s : GroupsSolved chain7 table7 lent7g (Done 8) new) 
   groups_7 = s.groups
 
 -- refused: all is as it was
-pub refused_keeps : {new : GroupLent} → GroupsSolved chain7 table7 short7g (Refused (Chain chain.Room)) new
+pub refused_keeps : {new : GroupLent} → GroupsSolved chain7 table7 short7g (Err (Chain chain.Room)) new
     → (new.solving.work ≡ lent7.work) × (new.solving.weights ≡ lent7.weights) × (new.solving.shares ≡ lent7.shares) × (new.groups ≡ short7g.groups)
 refused_keeps s = (s.work, s.weights, s.shares, s.groups)
 
 -- ---- the demands and the range, for any lent slices
 
-module _ {l new : GroupLent} (s : GroupsSolved chain7 table7 l (Done 8) new) where
+module _ {l new : GroupLent} (s : GroupsSolved chain7 table7 l (Ok 8) new) where
   pub set_7 : (other : ℕ → Bool) → Closed 3 (rate_in chain7) other → other 2 ≡ false
   set_7 other c = (s.the_set 8 refl).only other c 2 (lit< tt) ∙ outside_7
 

@@ -1,5 +1,6 @@
 -- What each field of the contract of `join` says of cases 2 and 3 joined, and of parts that are refused; the lent places are in crate `joint`,
 -- proofs/Cases. Assumes nothing.
+use Rattle.std.specs.Prelude.{Ok, Result}
 use mathlib.Core.List.{List, [], ◌∷◌}
 use mathlib.Core.Path.{◌≡◌, refl, ap, ◌∙◌}
 use Prim.Native.Nat.{ℕ, ◌*◌}
@@ -22,8 +23,7 @@ use Rattle.joined.specs.Joined.{JointChain}
 use Rattle.joined.specs.Verdict.{of_second, of_joint, join_verdict}
 use Rattle.joined.proofs.Cases.{two_ring, room_for_two_ring}
 use Rattle.joined.proofs.Meaning.{says_join}
-use Rattle.joint.specs.declared.Joining.{Joining}
-use Rattle.joint.specs.declared.Joining.TheVariants.{Done}
+use Rattle.joint.specs.declared.JoinRefusal.{JoinRefusal}
 use Rattle.joint.specs.Joining.{told_joining, Joins}
 use Rattle.worked.specs.Table.{chain1, chain2, chain3, chain6}
 use Rattle.worked.proofs.Cases.{cases_hold}
@@ -36,7 +36,7 @@ use Rattle.worked.proofs.CasesGroups as three
 abbrev lent : ℕ → Buffers
 lent columns = buffers (replicate 7 7) (replicate columns 8) (replicate 12 9)
 
-module _ {r : Joining} {new : Buffers} where
+module _ {r : Result ℕ JoinRefusal} {new : Buffers} where
   pub answer_23 : Joins chain2 chain3 (lent 12) r new → told_joining r ≡ (of_joint, accepts 12)
   answer_23 j = j.answer ∙ room_for_two_ring.0
 
@@ -60,7 +60,7 @@ exact_16 : set_weight 3 (rate_in chain3) (set_of chain3) 1 ≡ 16
 unfolding table
 exact_16 = ap (λ (xs : List ℕ). get_or xs 1 0) cases_hold.case_3.exact_weights_are
 
-module _ {old new : Buffers} (d : Joins chain2 chain3 old (Done 12) new) where
+module _ {old new : Buffers} (d : Joins chain2 chain3 old (Ok 12) new) where
   abbrev now : Rows
   now = chain_in new 6 12
 
@@ -110,8 +110,8 @@ module _ {old new : Buffers} (d : Joins chain2 chain3 old (Done 12) new) where
 -- ---- a part of one state: case 1 on either side gives case 2 back
 
 module _ {old new : Buffers} where
-  pub second_of_one : Joins chain2 chain1 old (Done 2) new → chain_in new 2 2 ≡ chain2
+  pub second_of_one : Joins chain2 chain1 old (Ok 2) new → chain_in new 2 2 ≡ chain2
   second_of_one d = (d.joint 2 refl).first_alone refl
 
-  pub first_of_one : Joins chain1 chain2 old (Done 2) new → chain_in new 2 2 ≡ chain2
+  pub first_of_one : Joins chain1 chain2 old (Ok 2) new → chain_in new 2 2 ≡ chain2
   first_of_one d = (d.joint 2 refl).second_alone refl

@@ -1,5 +1,6 @@
 -- What the field `in_range` of the contract of `solve` says of case 3 (R-7: "every number met on the way, group sums included, lies well inside the
 -- range"), one line for each kind of number. Assumes nothing.
+use Rattle.std.specs.Prelude.{Ok}
 use mathlib.Core.Bool.{true}
 use mathlib.Core.Logic.{◌≢◌, ◌⊎◌}
 use mathlib.Core.Path.{◌≡◌, refl}
@@ -9,7 +10,6 @@ use lib.Dec.{lit<, lit≤}
 use lib.IntN.{nat_abs}
 use Rattle.basics.specs.Sum.{sum}
 use Rattle.basics.specs.Below.{count, all}
-use Rattle.refusal.specs.declared.Outcome.TheVariants.{Done}
 use Rattle.scaled.specs.declared.Scaled.{Scaled}
 use Rattle.scaled.specs.Scaled.{zero_number, is_scaled}
 use Rattle.markov.specs.Closed.{size}
@@ -32,7 +32,7 @@ set_size_lem = refl
 abbrev entry : ℕ → ℕ → Scaled
 entry = set_entries chain3
 
-module _ {l new : Lent} (s : Solved chain3 l (Done 28) new) where
+module _ {l new : Lent} (s : Solved chain3 l (Ok 28) new) where
   met : AllFitShares ops WellInside 2 entry
   met = rw set_size_lem at (s.in_range 28 refl).numbers_met
 

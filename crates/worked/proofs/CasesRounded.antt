@@ -8,8 +8,7 @@ use native.Mathlib.Omega.{arith}
 use lib.Dec.{lit<, lit≤}
 use lib.IntN.{ℤ, pos, negsuc}
 use Rattle.scaled.specs.declared.Scaled.{Scaled}
-use Rattle.scaled.specs.declared.Rounded.{Rounded}
-use Rattle.scaled.specs.declared.Rounded.TheVariants.{Number, None}
+use Rattle.std.specs.Prelude.{Option, Some, None}
 use Rattle.scaled.specs.Scaled.{Exact, zero_number, exponent_in_range, is_scaled_at, is_scaled, exact_product, exact_quotient}
 use Rattle.scaled.specs.Units.{val, one, middle, OutOfRange, NoneExactly, Converts}
 use Rattle.scaled.proofs.Laws.{one_pos, limit_above}
@@ -28,7 +27,7 @@ unit = scaled 2147483648 (minus 31)
 abbrev three : Scaled
 three = scaled 3221225472 (minus 30)
 
-module _ {r : Rounded} where
+module _ {r : Option Scaled} where
   pub first_operand : RoundedToNearest 31 bad unit (exact_product bad unit) r → r ≡ None
   unfolding is_scaled_at
   first_operand p = p.no_first refl
@@ -40,7 +39,7 @@ module _ {r : Rounded} where
   pub by_zero : RoundedToNearest 31 unit zero_number (exact_quotient unit zero_number) r → r ≡ None
   by_zero p = p.by_zero refl
 
-  pub product_zero : RoundedToNearest 31 unit zero_number (exact_product unit zero_number) r → r ≡ Number zero_number
+  pub product_zero : RoundedToNearest 31 unit zero_number (exact_product unit zero_number) r → r ≡ Some zero_number
   unfolding is_scaled_at
   product_zero p = p.zero refl refl (lit< tt) refl
 
@@ -50,17 +49,17 @@ module _ {r : Rounded} where
 
 -- ---- the range: a number inside it is given, and none outside
 
-unequal : {x : Scaled} → ◌≡◌ {A = Rounded} (Number x) None → ⊥
+unequal : {x : Scaled} → ◌≡◌ {A = Option Scaled} (Some x) None → ⊥
 unequal q = let z : ◌≡◌ {A = ℕ} 0 1 = cc in absurd (omega arith)
 
 module _ {x : Exact} where
   pub given_inside : (n : NearestInRange 31 x None) → exponent_in_range n.e ≡ true → ⊥
   given_inside n q = unequal (sym (n.inside q))
 
-  pub none_outside : {y : Scaled} → (n : NearestInRange 31 x (Number y)) → exponent_in_range n.e ≡ false → ⊥
+  pub none_outside : {y : Scaled} → (n : NearestInRange 31 x (Some y)) → exponent_in_range n.e ≡ false → ⊥
   none_outside n q = unequal (n.outside q)
 
-  pub whole_m : {r : Rounded} → (n : NearestInRange 31 x r) → 2147483648 ≤ n.m
+  pub whole_m : {r : Option Scaled} → (n : NearestInRange 31 x r) → 2147483648 ≤ n.m
   whole_m n = n.is.lo
 
 -- ---- the rounding, in words of 3 bits, whose m runs from 4 to 7
@@ -82,7 +81,7 @@ not_odd n =
 
 -- ---- none exactly where the result is out of range: one unit, 2^-16384, is, and 0 is not
 
-pub one_unit : {r : Rounded} → NoneExactly 1 1 r → r ≡ None
+pub one_unit : {r : Option Scaled} → NoneExactly 1 1 r → r ≡ None
 unfolding OutOfRange middle
 one_unit n = n.all (inr (lit< tt, lit< tt))
 

@@ -1,5 +1,6 @@
 -- What each field of the contract of `solve` says of case 7, whose state 2 is outside the closed set, with lent slices of unequal lengths, and of
 -- inputs that are refused. Each line rests on the one field that it names, so that a field that says less is refused here. Assumes nothing.
+use Rattle.std.specs.Prelude.{Err, Ok, Result}
 use mathlib.Core.Bool.{Bool, true, false, false≢true}
 use mathlib.Core.List.{[], ◌∷◌}
 use mathlib.Core.Logic.{◌≢◌}
@@ -14,8 +15,7 @@ use Rattle.basics.specs.Below.{count, all}
 use Rattle.basics.specs.Near.{Near}
 use Rattle.basics.specs.Lists.{table}
 use Rattle.refusal.specs.Table.{accepts, refuses, of_chain, numbered, verdict}
-use Rattle.refusal.specs.declared.Outcome.{Outcome}
-use Rattle.refusal.specs.declared.Outcome.TheVariants.{Done, Refused}
+use Rattle.refusal.specs.declared.Refusal.{Refusal}
 use Rattle.refusal.specs.declared.Refusal.TheVariants.{Chain}
 use Rattle.refusal.specs.declared.ChainReason.TheVariants as chain
 use Rattle.scaled.specs.declared.Scaled.{Scaled}
@@ -59,63 +59,63 @@ lent2 = record {
 
 -- ---- the answer
 
-pub answer_7 : {r : Outcome} {new : Lent} → Solved chain7 lent7 r new → verdict r ≡ accepts 8
+pub answer_7 : {r : Result ℕ Refusal} {new : Lent} → Solved chain7 lent7 r new → verdict r ≡ accepts 8
 unfolding solved enough count_of set_size size count bound_count
     checked rules_checked starts_sound columns_checked entry_bad zeros_checked rate_in answered one_closed set_of lowest_set first_lowest second_lowest is_lowest settles all via sum
 answer_7 s = s.answer
 
-pub answer_short : {r : Outcome} {new : Lent} → Solved chain2 lent2 r new → verdict r ≡ refuses of_chain (numbered 5 0 0)
+pub answer_short : {r : Result ℕ Refusal} {new : Lent} → Solved chain2 lent2 r new → verdict r ≡ refuses of_chain (numbered 5 0 0)
 unfolding solved enough checked rules_checked starts_sound columns_checked entry_bad zeros_checked
 answer_short s = s.answer
 
 -- ---- the same by the facts alone
 
-pub says_7 : {r : Outcome} {new : Lent} → Solved chain7 lent7 r new → verdict r ≡ accepts 8
+pub says_7 : {r : Result ℕ Refusal} {new : Lent} → Solved chain7 lent7 r new → verdict r ≡ accepts 8
 unfolding solved enough count_of set_size size count bound_count
     checked rules_checked starts_sound columns_checked entry_bad zeros_checked rate_in answered one_closed set_of lowest_set first_lowest second_lowest is_lowest settles all via sum
 says_7 s = says_solved chain7 lent7 s.says
 
-pub says_short : {r : Outcome} {new : Lent} → Solved chain2 lent2 r new → verdict r ≡ refuses of_chain (numbered 5 0 0)
+pub says_short : {r : Result ℕ Refusal} {new : Lent} → Solved chain2 lent2 r new → verdict r ≡ refuses of_chain (numbered 5 0 0)
 unfolding solved enough checked rules_checked starts_sound columns_checked entry_bad zeros_checked
 says_short s = says_solved chain2 lent2 s.says
 
-pub says_0 : {r : Outcome} {new : Lent} → Solved chain0 lent7 r new → verdict r ≡ refuses of_chain (numbered 6 0 1)
+pub says_0 : {r : Result ℕ Refusal} {new : Lent} → Solved chain0 lent7 r new → verdict r ≡ refuses of_chain (numbered 6 0 1)
 unfolding solved enough checked rules_checked starts_sound columns_checked entry_bad zeros_checked rate_in
     answered one_closed set_of lowest_set first_lowest second_lowest is_lowest settles all via sum
 says_0 s = says_solved chain0 lent7 s.says
 
-pub says_6 : {r : Outcome} {new : Lent} → Solved chain6 lent2 r new → verdict r ≡ refuses of_chain (numbered 14 0 1)
+pub says_6 : {r : Result ℕ Refusal} {new : Lent} → Solved chain6 lent2 r new → verdict r ≡ refuses of_chain (numbered 14 0 1)
 unfolding solved checked rules_checked starts_sound columns_checked entry_bad zeros_checked
 says_6 s = says_solved chain6 lent2 s.says
 
 -- ---- acceptance, both ways, for any lent slices
 
 module _ {l new : Lent} where
-  pub accepted_7 : {r : Outcome} → Solved chain7 l r new → Solvable chain7 l → verdict r ≡ accepts 8
+  pub accepted_7 : {r : Result ℕ Refusal} → Solved chain7 l r new → Solvable chain7 l → verdict r ≡ accepts 8
   accepted_7 s h = s.acceptance.0 h ∙ ap accepts count_7
 
-  solvable_7 : Solved chain7 l (Done 8) new → Solvable chain7 l
+  solvable_7 : Solved chain7 l (Ok 8) new → Solvable chain7 l
   solvable_7 s = s.acceptance.1 (ap accepts (sym count_7))
 
-  pub rules_hold_7 : Solved chain7 l (Done 8) new → Accepted chain7
+  pub rules_hold_7 : Solved chain7 l (Ok 8) new → Accepted chain7
   rules_hold_7 s = (solvable_7 s).accepted
 
-  pub has_answer_7 : Solved chain7 l (Done 8) new → HasAnswer 3 (rate_in chain7)
+  pub has_answer_7 : Solved chain7 l (Ok 8) new → HasAnswer 3 (rate_in chain7)
   has_answer_7 s = (solvable_7 s).answer
 
-  pub work_places_7 : Solved chain7 l (Done 8) new → (9 ≤ length l.work.m) × (9 ≤ length l.work.e)
+  pub work_places_7 : Solved chain7 l (Ok 8) new → (9 ≤ length l.work.m) × (9 ≤ length l.work.e)
   work_places_7 s = let room = (solvable_7 s).room in (room.for_work.for_m, room.for_work.for_e)
 
-  pub weight_places_7 : Solved chain7 l (Done 8) new → (3 ≤ length l.weights.m) × (3 ≤ length l.weights.e)
+  pub weight_places_7 : Solved chain7 l (Ok 8) new → (3 ≤ length l.weights.m) × (3 ≤ length l.weights.e)
   weight_places_7 s = let room = (solvable_7 s).room in (room.for_weights.for_m, room.for_weights.for_e)
 
-  pub share_places_7 : Solved chain7 l (Done 8) new → (3 ≤ length l.shares.m) × (3 ≤ length l.shares.e)
+  pub share_places_7 : Solved chain7 l (Ok 8) new → (3 ≤ length l.shares.m) × (3 ≤ length l.shares.e)
   share_places_7 s = let room = (solvable_7 s).room in (room.for_shares.for_m, room.for_shares.for_e)
 
 -- ---- every lent place
 
 -- accepted: nine work places are 0, the results stand in front, and the places beyond are kept
-module _ {new : Lent} (s : Solved chain7 lent7 (Done 8) new) where
+module _ {new : Lent} (s : Solved chain7 lent7 (Ok 8) new) where
   pub work_7 : new.work ≡ pair (0 ∷ 0 ∷ 0 ∷ 0 ∷ 0 ∷ 0 ∷ 0 ∷ 0 ∷ 0 ∷ 7 ∷ 7 ∷ []) (replicate 9 (pos 0))
   work_7 = s.work
 
@@ -134,13 +134,13 @@ module _ {new : Lent} (s : Solved chain7 lent7 (Done 8) new) where
   shares_7 = s.shares
 
 -- refused: all is as it was
-pub refused_keeps : {new : Lent} → Solved chain2 lent2 (Refused (Chain chain.Room)) new
+pub refused_keeps : {new : Lent} → Solved chain2 lent2 (Err (Chain chain.Room)) new
     → (new.work ≡ lent2.work) × (new.weights ≡ lent2.weights) × (new.shares ≡ lent2.shares)
 refused_keeps s = (s.work, s.weights, s.shares)
 
 -- ---- the demands and the range, for any lent slices
 
-module _ {l new : Lent} (s : Solved chain7 l (Done 8) new) where
+module _ {l new : Lent} (s : Solved chain7 l (Ok 8) new) where
   -- no closed set has state 2
   pub set_7 : (other : ℕ → Bool) → Closed 3 (rate_in chain7) other → other 2 ≡ false
   set_7 other c = (s.the_set 8 refl).only other c 2 (lit< tt) ∙ outside_7
@@ -192,7 +192,7 @@ module _ {l new : Lent} (s : Solved chain7 l (Done 8) new) where
 -- ---- document 01's useless solver "that leaves the results untouched": demands 2 and 3 each shut it out
 
 -- the weights are the elimination's, and 7 is not its first m
-pub untouched_2 : {work shares : Slices} → Solved chain7 lent7 (Done 8) (record { work = work; weights = lent7.weights; shares = shares }) → ⊥
+pub untouched_2 : {work shares : Slices} → Solved chain7 lent7 (Ok 8) (record { work = work; weights = lent7.weights; shares = shares }) → ⊥
 untouched_2 s = let e = ap (λ (x : Slices). get_or x.m 0 0) (weights_7 s) in absurd (omega (arith, e))
 
 -- (7, 7) is no scaled number, so not near any weight

@@ -1,11 +1,12 @@
 -- What the contract of `solve` says of case 2, in which each state reaches the other: that R-3 changes nothing, field by field. Assumes nothing.
+use Rattle.std.specs.Prelude.{Result}
 use mathlib.Core.Bool.{true}
 use mathlib.Core.Path.{◌≡◌}
 use Prim.Native.Nat.{ℕ, zero, suc, ◌<◌}
 use native.Mathlib.Omega.{arith}
 use lib.Dec.{lit<}
 use Rattle.basics.specs.Sum.{sum}
-use Rattle.refusal.specs.declared.Outcome.{Outcome}
+use Rattle.refusal.specs.declared.Refusal.{Refusal}
 use Rattle.markov.specs.Chain.{Reaches, here, move, Irreducible}
 use Rattle.markov.specs.Closed.{HasAnswer, set_weight}
 use Rattle.markov.specs.Weight.{weight}
@@ -32,7 +33,7 @@ irreducible_2 = record { path = path }
     path (suc zero) (suc (suc j)) hi hj = absurd (omega arith)
     path (suc (suc i)) j hi hj = absurd (omega arith)
 
-module _ {old new : Lent} {r : Outcome} (s : Solved chain2 old r new) where
+module _ {old new : Lent} {r : Result ℕ Refusal} (s : Solved chain2 old r new) where
   pub answer_2 : HasAnswer 2 (rate_in chain2)
   answer_2 = (s.irreducible has_answer_2.0 irreducible_2).0
 

@@ -1,17 +1,14 @@
-use mathlib.Core.Path.{refl, ◌∙◌, sym}
+use mathlib.Core.Bool.{true, false}
+use mathlib.Core.Path.{◌≡◌}
+use lib.Dec.{eqb}
 use borrow.Author.Rules.{rules}
-use borrow.Author.Tests.{eq-eqb, ne_eqb}
-use Rattle.basics.proofs.FirstLaws.{first_end, first_here, first_next}
+use borrow.Author.Tests.{tests}
+use Rattle.std.proofs.lemmas.Iterator.{IsFirst-from_position, YieldsList-from_slice}
+use Rattle.basics.proofs.FoundLaws.{found_in_list}
 use Rattle.chain.proofs.first_zero.Goals as goal
 
-pub loop-place-init : goal.loop-place-init
-loop-place-init c = (search rules, refl)
-
-pub returns-then-rates-place-eq0 : goal.returns-then-rates-place-eq0
-returns-then-rates-place-eq0 c = sym (c.loop-place.invariant.1 ∙ first_here _ _ _ c.loop-place-test.true (eq-eqb _ _ c.if-rates-place-eq0.true))
-
-pub loop-place-preserved : goal.loop-place-preserved
-loop-place-preserved c = (search rules, c.loop-place.invariant.1 ∙ first_next _ _ _ c.loop-place-test.true (ne_eqb _ _ c.if-rates-place-eq0.false))
-
 pub returns : goal.returns
-returns c = sym (c.loop-place.invariant.1 ∙ first_end _ _ _ c.loop-place-test.false)
+returns c =
+    found_in_list (λ y. eqb y 0) c.args.rates.now _
+    (IsFirst-from_position _ _ _ (λ y. eqb y 0 ≡ true) (λ y. eqb y 0 ≡ false) c.position.ensures.ran (YieldsList-from_slice c.args.rates.now (search rules))
+    (λ x q k. search (rules, tests)) (λ x q k. search (rules, tests)))

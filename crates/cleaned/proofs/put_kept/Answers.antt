@@ -2,14 +2,14 @@
 use native.Mathlib.Omega.{arith}
 use Rattle.cleaned.proofs.Loops.{keep_hit, keep_miss, moved}
 use Rattle.cleaned.proofs.put_kept.Goals as goal
-use Rattle.cleaned.proofs.put_kept.Goals.{then-rates-p-gt0, else-rates-p-gt0}
+use Rattle.cleaned.proofs.put_kept.Goals.{then-rate-gt0, else-rate-gt0}
 
 pub loop-p-preserved : goal.loop-p-preserved
 loop-p-preserved c =
     let a = c.requires in
     let f = c.loop-p.invariant in
     let l = c.loop-p-test.true in
-    elim c.if-rates-p-gt0.branch [
-      | then-rates-p-gt0 w ↦ moved w.out-is w.q-is (keep_hit _ _ _ a _ _ _ f l (omega arith))
-      | else-rates-p-gt0 w ↦ moved w.out-is w.q-is (keep_miss _ _ _ a _ _ _ f l (omega arith))
+    elim c.if-rate-gt0.branch [
+      | then-rate-gt0 w ↦ moved w.out-is w.q-is (keep_hit _ _ _ a _ _ _ f l (omega arith))
+      | else-rate-gt0 w ↦ moved w.out-is w.q-is (keep_miss _ _ _ a _ _ _ f l (omega arith))
     ]

@@ -9,20 +9,25 @@ use Rattle.conversion.proofs.convert.Goals as goal
 pub returns-then-out-lt-LONGEST_FILE : goal.returns-then-out-lt-LONGEST_FILE
 returns-then-out-lt-LONGEST_FILE c = converts_nothing _ (λ i. (c.type_inv.bytes i).fits) (omega (arith, c.if-out-lt-LONGEST_FILE.true))
 
-pub put_chain-requires : goal.put_chain-requires
-put_chain-requires c =
-    let whole = chain_accepted c.in-Chain.ensures (search rules) (search rules) (search rules) refl in
-    let few = read_few c.in-Chain.ensures refl in
-    (omega (arith, c.if-out-lt-LONGEST_FILE.false), whole, omega (arith, whole.sound.order.high), search rules, search rules)
+-- what the reading left
+pub chain-chain-requires : goal.chain-chain-requires
+chain-chain-requires c =
+    let few = read_few c.in-Ok.ensures refl in
+    let low = (chain_accepted c.in-Ok.ensures (search rules) (search rules) (search rules) refl refl).sound.order.high in
+    (omega (arith, low), search rules, search rules)
 
-pub returns-in-Chain : goal.returns-in-Chain
-returns-in-Chain c =
-    converts _ (λ i. (c.type_inv.bytes i).fits) (omega (arith, c.if-out-lt-LONGEST_FILE.false))
-    (read_output c.in-Chain.ensures (search rules) (search rules) (search rules) refl _ c.other_form.ensures)
-    c.put_chain.ensures.0 c.put_chain.ensures.1
+pub put_file-requires : goal.put_file-requires
+put_file-requires c =
+    (omega (arith, c.if-out-lt-LONGEST_FILE.false), chain_accepted c.in-Ok.ensures (search rules) (search rules) (search rules) refl c.chain-chain.ensures)
 
-pub returns-in-Refused : goal.returns-in-Refused
-returns-in-Refused c =
+pub returns-in-Ok : goal.returns-in-Ok
+returns-in-Ok c =
     converts _ (λ i. (c.type_inv.bytes i).fits) (omega (arith, c.if-out-lt-LONGEST_FILE.false))
-    (unread_output c.in-Refused.ensures (search rules) (search rules) (search rules) refl)
+    (read_output c.in-Ok.ensures (search rules) (search rules) (search rules) refl c.chain-chain.ensures _ c.other_form.ensures)
+    c.put_file.ensures.0 c.put_file.ensures.1
+
+pub returns-in-Err : goal.returns-in-Err
+returns-in-Err c =
+    converts _ (λ i. (c.type_inv.bytes i).fits) (omega (arith, c.if-out-lt-LONGEST_FILE.false))
+    (unread_output c.in-Err.ensures (search rules) (search rules) (search rules) refl)
     c.put_refusal.ensures.0 (omega (arith, c.put_refusal.ensures.1))

@@ -1,9 +1,9 @@
--- A chain that every call takes is written: its refusal is never met. Assumes nothing.
-use Rattle.filing.proofs.Filed.{file_put, never_refused}
+-- A chain that every call takes is written: its refusal is never met.
+use Rattle.filing.proofs.Filed.{file_put, is_written}
 use Rattle.filing.proofs.put_file.Goals as goal
 
-pub returns-in-Done : goal.returns-in-Done
-returns-in-Done c = file_put c.write.ensures c.requires.1 (λ i. (c.type_inv.rates i).fits) c.requires.0 c.in-Done.is
+pub unwrap-requires : goal.unwrap-requires
+unwrap-requires c = is_written c.write.ensures c.requires.1 c.args.chain.rates_fit c.requires.0
 
-pub returns-in-Refused : goal.returns-in-Refused
-returns-in-Refused c = absurd (never_refused c.write.ensures c.requires.1 (λ i. (c.type_inv.rates i).fits) c.requires.0 c.in-Refused.is)
+pub returns : goal.returns
+returns c = file_put c.write.ensures c.requires.1 c.args.chain.rates_fit c.requires.0 c.unwrap.ensures

@@ -1,14 +1,19 @@
 -- One test after the other. Assumes nothing.
-use mathlib.Core.Path.{sym, ◌∙◌}
-use Rattle.solver.proofs.Admission.{told}
-use Rattle.group_shares.proofs.Admission.{too_many, unsuited, room_decides}
+use mathlib.Core.Path.{◌≡◌, sym, ◌∙◌}
+use mathlib.Core.Bool.{true, false}
+use Rattle.std.specs.Result.{is_ok}
+use Rattle.group_shares.proofs.Admission.{too_many, suits_is}
 use Rattle.group_shares.proofs.suits.Goals as goal
 
 pub returns-then-n-gt64 : goal.returns-then-n-gt64
 returns-then-n-gt64 c = sym (too_many _ _ _ c.if-n-gt64.true)
 
-pub returns-in_default : goal.returns-in_default
-returns-in_default c = sym (unsuited _ _ _ c.check_table-fits.ensures.computed c.in_default.is)
+pub returns-then-is_ok : goal.returns-then-is_ok
+returns-then-is_ok c =
+    let t : is_ok c.check_table.result ≡ true = sym c.is_ok.ensures.value ∙ c.if-is_ok.true in
+    c.sixteen_places.ensures ∙ sym (suits_is _ _ _ _ c.if-n-gt64.false c.check_table.ensures.computed ∙ rw t)
 
-pub returns : goal.returns
-returns c = c.sixteen_places.ensures ∙ sym (room_decides _ _ _ c.if-n-gt64.false (told c.in-Done.is c.check_table-fits.ensures.computed))
+pub returns-else-is_ok : goal.returns-else-is_ok
+returns-else-is_ok c =
+    let t : is_ok c.check_table.result ≡ false = sym c.is_ok.ensures.value ∙ c.if-is_ok.false in
+    c.if-is_ok.false ∙ sym (suits_is _ _ _ _ c.if-n-gt64.false c.check_table.ensures.computed ∙ rw t)

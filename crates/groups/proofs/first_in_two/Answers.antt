@@ -1,8 +1,9 @@
-use mathlib.Core.Path.{◌∙◌}
-use native.Mathlib.Omega.{arith}
-use borrow.Author.Tests.{lt-leb}
-use Rattle.basics.proofs.FirstLaws.{first_next}
+use Rattle.std.proofs.Common.{ℕ, leb, get_or, rules, arith}
+use borrow.Author.Tests.{tests}
+use Rattle.basics.proofs.FoundLaws.{found_by_find}
 use Rattle.groups.proofs.first_in_two.Goals as goal
 
-pub loop-s-preserved : goal.loop-s-preserved
-loop-s-preserved c = (omega arith, c.loop-s.invariant.1 ∙ first_next _ _ _ c.loop-s-test.true (lt-leb 2 _ c.if-seen-s-ge2.false))
+pub returns : goal.returns
+returns c =
+    found_by_find (λ (s : ℕ). leb 2 (get_or c.args.seen.now s 0)) _ _ _ _ c.find.ensures.ran (omega arith)
+    (λ x q k. search (rules, tests)) (λ x q k. search (rules, tests))

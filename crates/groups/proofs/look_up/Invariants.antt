@@ -1,10 +1,7 @@
 -- The loop's invariant: the states of the rows before this one have their groups.
-use Rattle.std.proofs.Common.{◌-◌, ◌≡◌, ◌≤◌, length}
+use Rattle.std.proofs.Common.{◌≡◌, length}
 use Rattle.groups.proofs.Filling.{Filled}
 use Rattle.groups.proofs.look_up.Given as goal
 
 abbrev pub invariant-loop-row : goal.invariant-loop-row
-invariant-loop-row l = (l.row ≤ l.rows) × (length l.of ≡ 64) × Filled l.table l.row l.of
-
-abbrev pub decreases-loop-row : goal.decreases-loop-row
-decreases-loop-row l = l.rows - l.row
+invariant-loop-row l = (length l.of ≡ 64) × Filled l.table l.row l.of

@@ -7,11 +7,11 @@ use Rattle.groups.proofs.row_bad.Goals as goal
 pub returns-then-table-at-lt3 : goal.returns-then-table-at-lt3
 returns-then-table-at-lt3 c = sym (fault_bad _ _ _ (cut_short (omega arith)))
 
-pub returns-then-last-wide : goal.returns-then-last-wide
-returns-then-last-wide c = sym (fault_bad _ _ _ (first_above_last (omega (arith, c.wide-last.ensures, c.wide.ensures))))
+pub returns-then-last-table : goal.returns-then-last-table
+returns-then-last-table c = sym (fault_bad _ _ _ (first_above_last (omega arith)))
 
 pub returns-then-n-last : goal.returns-then-n-last
-returns-then-n-last c = sym (fault_bad _ _ _ (last_too_high (omega (arith, c.wide-last.ensures))))
+returns-then-n-last c = sym (fault_bad _ _ _ (last_too_high (omega arith)))
 
 pub returns : goal.returns
-returns c = sym (group_decides _ _ _ (omega arith) (omega (arith, c.wide-last.ensures, c.wide.ensures)) (omega (arith, c.wide-last.ensures)))
+returns c = sym (group_decides _ _ _ (omega arith) (omega arith) (omega arith))

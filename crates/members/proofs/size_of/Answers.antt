@@ -1,5 +1,5 @@
 -- The loop's invariant: r of the states below `state` are in the set. Assumes nothing.
-use mathlib.Core.Path.{◌≡◌, sym, ◌∙◌}
+use mathlib.Core.Path.{sym, ◌∙◌}
 use native.Mathlib.Omega.{arith}
 use borrow.Author.Rules.{rules}
 use Rattle.reach.specs.Reach.{stands}
@@ -19,6 +19,3 @@ loop-state-preserved c =
       | then-test_bit w ↦ (omega arith, omega arith, omega (arith, size_next_in set i (b ∙ w.if-test_bit.true)))
       | else-test_bit w ↦ (omega arith, omega arith, omega (arith, size_next_out set i (b ∙ w.if-test_bit.false)))
     ]
-
-pub returns : goal.returns
-returns c = let q : c.loop-state.state ≡ c.args.n = omega arith in rw q at c.loop-state.invariant.2

@@ -1,12 +1,9 @@
--- The loop's invariant: the k top states have their numbers, and `left` states of the set are below them. Assumes nothing.
-use Prim.Native.Nat.{◌-◌, ◌≤◌}
+-- The loop's invariant: the states from i on have their numbers, and `left` states of the set are below them. Assumes nothing.
+use Rattle.std.proofs.Common.{length}
 use Rattle.reach.specs.Reach.{stands}
-use Rattle.kernel.specs.Slices.{pair}
-use Rattle.members.proofs.Spreading.{SpreadTo}
+use Rattle.kernel.specs.Lent.{Stored}
+use Rattle.members.proofs.Spreading.{SpreadFrom}
 use Rattle.members.proofs.spread.Given as goal
 
-abbrev pub invariant-loop-k : goal.invariant-loop-k
-invariant-loop-k l = (l.k ≤ l.n) × SpreadTo l.n (stands l.set) l.k l.left (pair l.initial.m l.initial.e) (pair l.m l.e)
-
-abbrev pub decreases-loop-k : goal.decreases-loop-k
-decreases-loop-k l = l.n - l.k
+abbrev pub invariant-loop-i : goal.invariant-loop-i
+invariant-loop-i l = Stored (SpreadFrom (length l.initial.x.m.now) (stands l.set) l.i l.left) l.initial.x l.x

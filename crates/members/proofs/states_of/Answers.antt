@@ -2,7 +2,7 @@
 use mathlib.Core.Path.{sym, ◌∙◌}
 use native.Mathlib.Omega.{arith}
 use borrow.Author.Rules.{rules}
-use Rattle.members.proofs.Listing.{listing_none, listing_in, listing_out, listing_all}
+use Rattle.members.proofs.Listing.{listing_none, listing_in, listing_out}
 use Rattle.members.proofs.states_of.Goals as goal
 use Rattle.members.proofs.states_of.Goals.{then-test_bit, else-test_bit}
 
@@ -21,6 +21,3 @@ loop-i-preserved c =
       )
       | else-test_bit w ↦ (omega arith, omega arith, rw (w.count-is, w.list-is, w.places-is) (listing_out (omega arith) (omega arith) h (b ∙ w.if-test_bit.false)))
     ]
-
-pub returns : goal.returns
-returns c = listing_all (omega arith) (omega arith) c.loop-i.invariant.2

@@ -1,17 +1,11 @@
--- The loop's invariant: the search goes on from i. Assumes nothing.
-use mathlib.Core.Path.{sym, ◌∙◌}
-use Rattle.basics.proofs.FirstLaws.{first_end, first_here, first_next}
+use borrow.Author.Rules.{rules}
+use borrow.Author.Tests.{tests}
+use Rattle.basics.proofs.FoundLaws.{found_by_find}
+use Rattle.reach.specs.Reach.{bits}
+use Rattle.reach.specs.ClosedSets.{is_lowest}
 use Rattle.reach.proofs.next_lowest.Goals as goal
 
-pub returns-then-is_lowest : goal.returns-then-is_lowest
-returns-then-is_lowest c =
-    sym (c.loop-i.invariant
-    ∙ first_here _ _ _ c.loop-i-test.true (sym c.is_lowest.ensures ∙ c.if-is_lowest.true))
-
-pub loop-i-preserved : goal.loop-i-preserved
-loop-i-preserved c =
-    c.loop-i.invariant
-    ∙ first_next _ _ _ c.loop-i-test.true (sym c.is_lowest.ensures ∙ c.if-is_lowest.false)
-
 pub returns : goal.returns
-returns c = sym (c.loop-i.invariant ∙ first_end _ _ _ c.loop-i-test.false)
+returns c =
+    found_by_find (is_lowest c.args.n (bits c.args.rows.now)) _ _ _ _ c.find.ensures.ran c.requires.0
+    (λ x q k. search (rules, tests)) (λ x q k. search (rules, tests))

@@ -8,7 +8,7 @@ pub loop-place-init : goal.loop-place-init
 loop-place-init c = (search rules, search rules, row_none _ _ _ _ _ c.set_bit-mask.ensures)
 
 pub with_entry-mask-requires : goal.with_entry-mask-requires
-with_entry-mask-requires c = c.requires.by_index _ (search rules) (search rules)
+with_entry-mask-requires c = c.requires.columns_low _ (search rules) (search rules)
 
 pub loop-place-preserved : goal.loop-place-preserved
 loop-place-preserved c = (

@@ -11,19 +11,19 @@ use Rattle.report.proofs.put_solved.Goals as goal
 
 pub put_answer-requires : goal.put_answer-requires
 put_answer-requires c =
-    let short : length (answer_lines c.args.order c.in-Done.bound _ _) ≤ longest =
-    answer_room c.in-Done.ensures
+    let short : length (answer_lines c.args.chain.order c.in-Ok.bound _ _) ≤ longest =
+    answer_room c.in-Ok.ensures
     (room_enough c.requires.1 (search rules) (search rules) (search rules) (search rules) (search rules) (search rules)) refl in
     (omega (arith, short, c.requires.0), search rules, search rules, search rules, search rules)
 
-pub returns-in-Done : goal.returns-in-Done
-returns-in-Done c =
-    put_done c.in-Done.ensures
+pub returns-in-Ok : goal.returns-in-Ok
+returns-in-Ok c =
+    put_done c.in-Ok.ensures
     (room_enough c.requires.1 (search rules) (search rules) (search rules) (search rules) (search rules) (search rules))
     refl c.put_answer.ensures
 
-pub returns-in-Refused : goal.returns-in-Refused
-returns-in-Refused c =
-    put_stopped c.in-Refused.ensures
+pub returns-in-Err : goal.returns-in-Err
+returns-in-Err c =
+    put_stopped c.in-Err.ensures
     (room_enough c.requires.1 (search rules) (search rules) (search rules) (search rules) (search rules) (search rules))
     refl c.put_refusal.ensures

@@ -1,27 +1,15 @@
 -- The operands are tested, then the range. Assumes nothing.
 use mathlib.Core.Path.{sym, ◌∙◌}
 use Rattle.scaled.specs.Scaled.{is_scaled, sum_of, rounded_sum}
-use Rattle.scaled.proofs.Forms.{first_refused, second_refused}
+use Rattle.scaled.proofs.Forms.{one_refused}
 use Rattle.scaled.proofs.NearestLaws.{sum_promised}
 use Rattle.scaled.proofs.sum.Goals as goal
 
-pub returns-then-not-is_scaled : goal.returns-then-not-is_scaled
+pub returns-then-not-are_scaled : goal.returns-then-not-are_scaled
 unfolding is_scaled sum_of rounded_sum
-returns-then-not-is_scaled c =
-    let p = sum_promised c.args.a c.args.b (sym (first_refused 31 _ _ _ (sym c.is_scaled.ensures ∙ c.if-not-is_scaled.true))) in
+returns-then-not-are_scaled c =
+    let p = sum_promised c.args.a c.args.b (sym (one_refused 31 _ _ _ (sym c.are_scaled.ensures ∙ c.if-not-are_scaled.true))) in
     record { value = p.0; rounded_to_nearest = p.1.0; none_exactly = p.1.1 }
-
-pub returns-then-not-is_scaled-2 : goal.returns-then-not-is_scaled-2
-unfolding is_scaled sum_of rounded_sum
-returns-then-not-is_scaled-2 c =
-    let p = sum_promised c.args.a c.args.b (sym (second_refused 31 _ _ _ (sym c.is_scaled-2.ensures ∙ c.if-not-is_scaled-2.true))) in
-    record { value = p.0; rounded_to_nearest = p.1.0; none_exactly = p.1.1 }
-
-pub wide_sum-requires : goal.wide_sum-requires
-wide_sum-requires c =
-    let s = sym c.is_scaled.ensures ∙ c.if-not-is_scaled.false in
-    let t = sym c.is_scaled-2.ensures ∙ c.if-not-is_scaled-2.false in
-    (s, t)
 
 pub returns : goal.returns
 returns c =

@@ -10,7 +10,7 @@ use mir.Syntax.{w32}
 use mir.Val.{to_z, of_z}
 use borrow.Author.Tests.{ne_eqb}
 use Rattle.scaled.specs.declared.Scaled.{Scaled}
-use Rattle.scaled.specs.Scaled.{zero_number, is_scaled, dyadic, exact_quotient, nearest, quotient_of, rounded_quotient}
+use Rattle.scaled.specs.Scaled.{zero_number, ranged_number, is_scaled, dyadic, exact_quotient, nearest, quotient_of, rounded_quotient}
 use Rattle.scaled.proofs.Signed32.{Held, held, held_fits, held_small, stored, minus}
 use Rattle.scaled.proofs.Ties.{nearest_zero}
 use Rattle.scaled.proofs.Forms.{form, m_big, m_below, some_m, exponent_held, both_scaled}
@@ -41,8 +41,7 @@ module _ (a b : Scaled) (s : is_scaled a ≡ true) (t : is_scaled b ≡ true) (n
   exact = rw (ne_eqb b.m 0 (some b t n)) (both_scaled 31 _ _ _ s t)
 
   difference : Held (to_z w32 (of_z w32 a.e) -ℤ to_z w32 (of_z w32 b.e)) (a.e -ℤ b.e) 32769
-  unfolding is_scaled
-  difference = minus (exponent_held 31 _ s) (exponent_held 31 _ t)
+  difference = minus (exponent_held _ s) (exponent_held _ t)
 
   exponent : Held (to_z w32 (of_z w32 (to_z w32 (of_z w32 a.e) -ℤ to_z w32 (of_z w32 b.e))) -ℤ pos 34) (a.e -ℤ b.e -ℤ pos 34) 32805
   exponent = minus (stored difference (omega arith)) (held (pos 34) {n = 35} (omega arith))
@@ -58,7 +57,7 @@ module _ (a b : Scaled) (s : is_scaled a ≡ true) (t : is_scaled b ≡ true) (n
   high some = quotient_high 31 a.m b.m (big a s some) (below a s) divisor (below b t)
 
 pub returns-then-a-eq0 : goal.returns-then-a-eq0
-returns-then-a-eq0 c = nearest_zero 31 _ _ _ c.if-a-eq0.true ∙ exact _ _ c.requires.0 c.requires.1 c.requires.2
+returns-then-a-eq0 c = ap ranged_number c.zero.ensures ∙ nearest_zero 31 _ _ _ c.if-a-eq0.true ∙ exact _ _ c.requires.0 c.requires.1 c.requires.2
 
 pub overflow_mul-n-2 : goal.overflow_mul-n-2
 overflow_mul-n-2 c = record { fits = omega (arith, high _ _ c.requires.0 c.requires.1 c.requires.2 c.if-a-eq0.false) }

@@ -1,19 +1,26 @@
 -- One pair of slices after the other. Assumes nothing.
+use mathlib.Core.Bool.{false≢true}
 use mathlib.Core.Path.{sym, ◌∙◌}
 use Rattle.solver.specs.Lent.{enough}
 use Rattle.solver.proofs.enough.Goals as goal
+use Rattle.solver.proofs.enough.Goals.{then-both_have, else-both_have}
 
-pub returns-then-not-both_have : goal.returns-then-not-both_have
+pub returns-then-both_have-2 : goal.returns-then-both_have-2
 unfolding enough
-returns-then-not-both_have c = rw (sym c.both_have.ensures ∙ c.if-not-both_have.true)
+returns-then-both_have-2 c =
+    elim c.if-both_have.branch [
+      | then-both_have w ↦
+          c.both_have-then-both_have-2.ensures
+          ∙ rw (sym c.both_have.ensures ∙ w.if-both_have.true, sym w.both_have-then-both_have.ensures ∙ sym w.value-is ∙ c.if-both_have-2.true)
+      | else-both_have w ↦ absurd (false≢true (sym w.if-both_have.false ∙ sym w.value-is ∙ c.if-both_have-2.true))
+    ]
 
-pub returns-then-not-both_have-2 : goal.returns-then-not-both_have-2
+pub returns-else-both_have-2 : goal.returns-else-both_have-2
 unfolding enough
-returns-then-not-both_have-2 c =
-    rw (sym c.both_have.ensures ∙ c.if-not-both_have.false, sym c.both_have-2.ensures ∙ c.if-not-both_have-2.true)
-
-pub returns : goal.returns
-unfolding enough
-returns c =
-    rw (sym c.both_have.ensures ∙ c.if-not-both_have.false, sym c.both_have-2.ensures ∙ c.if-not-both_have-2.false)
-    c.both_have-3.ensures
+returns-else-both_have-2 c =
+    elim c.if-both_have.branch [
+      | then-both_have w ↦
+          c.if-both_have-2.false
+          ∙ rw (sym c.both_have.ensures ∙ w.if-both_have.true, sym w.both_have-then-both_have.ensures ∙ sym w.value-is ∙ c.if-both_have-2.false)
+      | else-both_have w ↦ c.if-both_have-2.false ∙ rw (sym c.both_have.ensures ∙ w.if-both_have.false)
+    ]

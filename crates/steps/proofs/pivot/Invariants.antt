@@ -1,12 +1,9 @@
 -- The loop's invariant: s is the sum of the entries (k, b), b from k + 1 up to, not including, j. Assumes nothing.
-use Rattle.std.proofs.Common.{◌≡◌, ◌+◌, ◌-◌, ◌≤◌, ◌<◌}
+use Rattle.std.proofs.Common.{◌≡◌, ◌+◌, ◌-◌}
 use Rattle.markov.specs.Elimination.{total}
 use Rattle.kernel.specs.Numbers.{ops}
-use Rattle.kernel.specs.Slices.{entry_at, pair}
+use Rattle.kernel.specs.Lent.{entry_of}
 use Rattle.steps.proofs.pivot.Given as goal
 
 abbrev pub invariant-loop-j : goal.invariant-loop-j
-invariant-loop-j l = (l.k < l.j) × (l.j ≤ l.n) × (l.s ≡ total ops (l.j - (l.k + 1)) (λ i. entry_at l.n (pair l.m l.e) l.k (l.k + 1 + i)))
-
-abbrev pub decreases-loop-j : goal.decreases-loop-j
-decreases-loop-j l = l.n - l.j
+invariant-loop-j l = l.s ≡ total ops (l.j - (l.k + 1)) (λ i. entry_of l.x l.k (l.k + 1 + i))

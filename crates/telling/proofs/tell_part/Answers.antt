@@ -11,6 +11,6 @@ returns c =
     let l = c.listed-line.ensures.line_is in
     record {
       returned = ap (λ (x : Line). x.number) l;
-      answer_is = c.put_four.ensures
+      answer_is = c.put.ensures
           ∙ ap₂ (λ (x : Line) (k : ℕ). handed c.args.answer.now (x.first ∷ x.second ∷ k ∷ c.args.part ∷ [])) l c.side_number.ensures;
     }

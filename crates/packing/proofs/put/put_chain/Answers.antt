@@ -1,25 +1,24 @@
--- `put_chain`: one call of `put_row` for each row; what is still to be put is the invariant of Storing. Assumes nothing.
+-- One call of `put` for each row; what is still to be put is the invariant of Storing.
 use mathlib.Core.Path.{◌∙◌}
+use native.Mathlib.Omega.{arith}
 use lib.ListN.{length-set}
-use Rattle.chain.proofs.Reading.{accepted_sound}
-use Rattle.packing.proofs.Storing.{begin, asks, put, end}
+use Rattle.packing.proofs.Storing.{ends_within, none_put, row_room, row_put, all_put}
 use Rattle.packing.proofs.put.put_chain.Goals as goal
 
-pub first_of-requires : goal.first_of-requires
-first_of-requires c = (accepted_sound _ c.requires.0).order.high
-
 pub loop-row-init : goal.loop-row-init
-loop-row-init c =
-    (accepted_sound _ c.requires.0, begin _ _ _ (rw length-set c.requires.1))
+loop-row-init c = none_put _ _ _ (rw length-set c.requires)
 
-pub put_row-m-requires : goal.put_row-m-requires
-put_row-m-requires c = asks _ _ _ _ _ _ c.loop-row.invariant.1 c.loop-row-test.true
+pub slice_bounds-entries-end : goal.slice_bounds-entries-end
+slice_bounds-entries-end c = (ends_within c.args.sound.sound c.loop-row.row c.loop-row-test.true).0
+
+pub slice_bounds-entries-end-in-loop-row : goal.slice_bounds-entries-end-in-loop-row
+slice_bounds-entries-end-in-loop-row c = (ends_within c.args.sound.sound c.loop-row.row c.loop-row-test.true).1
+
+pub put-m-requires : goal.put-m-requires
+put-m-requires c = row_room _ _ _ _ _ _ c.loop-row.invariant c.loop-row-test.true
 
 pub loop-row-preserved : goal.loop-row-preserved
-loop-row-preserved c =
-    let inv = c.loop-row.invariant in
-    (inv.0, put _ _ _ _ _ _ inv.1 c.loop-row-test.true _ _ c.put_row-m.ensures)
+loop-row-preserved c = row_put _ _ _ _ _ _ c.loop-row.invariant c.loop-row-test.true _ _ c.put-m.ensures
 
 pub returns : goal.returns
-returns c =
-    end _ _ _ _ _ _ c.loop-row.invariant.1 c.loop-row-test.false ∙ rw c.first_of.ensures.0
+returns c = all_put _ _ _ _ _ _ c.loop-row.invariant (omega arith) ∙ rw c.first_of.ensures.0

@@ -1,24 +1,19 @@
--- `put_rate`: two bytes, or four. Assumes nothing.
+-- The first bytes of the four.
+use Prim.Native.Nat.{ℕ, ◌+◌, ◌-◌}
+use mathlib.Core.Path.{◌≡◌, ap, ◌∙◌}
 use native.Mathlib.Omega.{arith}
-use lib.ListN.{length-set}
-use Rattle.layout.proofs.Rates.{width_low}
-use Rattle.packing.proofs.MapLaws.{two_put, four_put}
+use Rattle.layout.specs.Forms.{width}
+use Rattle.layout.specs.File.{rate_bytes}
+use Rattle.packing.proofs.MapLaws.{length_rate, first_bytes, part_put}
 use Rattle.packing.proofs.put.put_rate.Goals as goal
 
-pub bounds-out-a : goal.bounds-out-a
-bounds-out-a c = let w = width_low c.args.short in omega (arith, c.requires)
-
-pub bounds-out-a-2 : goal.bounds-out-a-2
-bounds-out-a-2 c = let w = width_low c.args.short in simp length-set (omega (arith, c.requires))
-
-pub returns-then-short : goal.returns-then-short
-returns-then-short c = two_put _ _ _ _ c.if-short.true
-
-pub bounds-out-a-3 : goal.bounds-out-a-3
-bounds-out-a-3 c = let h = rw c.if-short.false at c.requires in simp length-set (omega (arith, h))
-
-pub bounds-out-a-4 : goal.bounds-out-a-4
-bounds-out-a-4 c = let h = rw c.if-short.false at c.requires in simp length-set (omega (arith, h))
-
 pub returns : goal.returns
-returns c = four_put _ _ _ _ c.if-short.false
+returns c =
+    let a = c.args in
+    let w = c.width_of-width.ensures.0 in
+    let bytes : c.copy_from_slice.new.self ≡ rate_bytes a.short a.rate =
+    c.copy_from_slice.ensures.after ∙ rw (w, c.to_le_bytes.ensures) (first_bytes a.short a.rate c.ranges.rate.fits) in
+    let k : a.a + c.width_of-width.result - a.a ≡ width a.short = omega arith in (
+      rw (k, bytes) (part_put a.a (width a.short) a.out.now (rate_bytes a.short a.rate) (length_rate a.short a.rate) c.requires),
+      ap (λ (n : ℕ). a.a + n) w,
+    )

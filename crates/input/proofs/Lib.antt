@@ -1,0 +1,2 @@
+-- Laws of answers at the front of a buffer.
+pub mod FrontLaws

@@ -1,8 +1,0 @@
--- The number at the place of the entry. Assumes nothing.
-use Rattle.std.proofs.Common.{◌∙◌}
-use Rattle.kernel.specs.Slices.{entry_at}
-use Rattle.kernel.proofs.entry.Goals as goal
-
-pub returns : goal.returns
-unfolding entry_at
-returns c = c.load.ensures ∙ rw c.cell-at.ensures.0
