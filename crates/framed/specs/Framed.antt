@@ -1,4 +1,4 @@
--- What a reading of the next file leaves in the buffer.
+-- What a reading of the next file leaves in the buffer, which bytes of the input it took, and which files were handed on.
 use Rattle.std.specs.Prelude.{Option, Some, None, List, [], ◌∷◌, ◌++◌, ◌≡◌, ◌≢◌, ◌⊎◌, ℕ, ◌+◌, ◌-◌, ◌*◌, ◌^◌, ◌≤◌, length, take, drop}
 use Rattle.std.specs.Io.KnownBytes.{Consumes, IsAtEnd}
 use Rattle.framed.specs.declared.Next.{Next}

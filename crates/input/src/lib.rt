@@ -78,7 +78,7 @@ pub fn run<F: FnOnce(&[u8], &mut [u8]) -> usize, P: Print + Eprint, R: Read>(
     }
 }
 
-// Prints the answer to each of several files in an input, until a read or a write fails.
+// Prints the answer to each of several files in an input, as `framed::each_file` hands them on. A read or a write that fails ends it.
 pub fn run_each<F: Fn(&[u8], &mut [u8]) -> usize, P: Print, R: Read>(
     rt: &P,
     from: &mut R,
