@@ -4,7 +4,7 @@
 ghost use Rattle.std.specs.Prelude.{◌≡◌, true, ◌<◌, ◌≤◌, eqb, get_or, length};
 ghost use Rattle.basics.specs.First.{found};
 ghost use Rattle.refusal.specs.Table.{verdict};
-ghost use Rattle.chain.specs.Rows.{rows_of};
+ghost use Rattle.chain.specs.Rows.{in_rows, rows_of};
 ghost use Rattle.chain.specs.Rules.{order_sound, falls_at, starts_sound, entry_bad, columns_checked, rules_checked, zero_at, row_of, zeros_checked, checked};
 ghost use Rattle.chain.specs.Sound.{Sound, Says};
 ghost use Rattle.chain.specs.Row.{row_part, row_rates, stands_at};
@@ -81,6 +81,18 @@ fn place_of(columns: &[u32], begin: usize, end: usize, j: usize) -> Option<usize
 }
 
 impl<'a> Chain<'a> {
+    // The chain of any order and any slices.
+    pub fn new(order: usize, starts: &'a [u32], columns: &'a [u32], rates: &'a [u32]) -> Chain<'a>
+        ensures { (result.order ≡ order) × (result.starts ≡ starts.entry) × (result.columns ≡ columns.entry) × (result.rates ≡ rates.entry) }
+    {
+        Chain {
+            order,
+            starts,
+            columns,
+            rates,
+        }
+    }
+
     // The place of the first entry from `begin` up to, not including, `end` that breaks a rule of the columns.
     fn first_bad(self, row: usize, begin: usize, end: usize) -> Option<usize>
         requires { (begin ≤ end) × (end ≤ length self.columns.now) }
@@ -132,20 +144,12 @@ impl<'a> Chain<'a> {
         SoundChain { chain: self }.check_zeros()
     }
 
-    // The caller's own rates of a row; the empty part for a chain refused by 1 to 4 or 14, or a row number of n or more.
+    // The caller's own rates of a row, as `row_rates` hands them back.
     pub fn row_rates(self, row: usize) -> &'a [u32]
         ensures content { result.now ≡ row_rates (rows_of self.entry) row }
         ensures own { result.ref_ptr ≡ stands_at self.entry.rates (row_part (rows_of self.entry) row).0 }
     {
-        let Ok(_) = self.check() else {
-            return &self.rates[0..0];
-        };
-        if self.order <= row {
-            return &self.rates[0..0];
-        }
-        let begin = self.starts[row] as usize;
-        let end = self.starts[row + 1] as usize;
-        &self.rates[begin..end]
+        row_rates(self.order, self.starts, self.columns, self.rates, row)
     }
 }
 
@@ -192,4 +196,33 @@ impl SoundChain<'_> {
             None => 0,
         }
     }
+}
+
+// The caller's own rates of a row; the empty part for a chain refused by 1 to 4 or 14, or a row number of n or more. They are lent as long as
+// the rates are, whether starts and columns are or not.
+pub fn row_rates<'a>(
+    n: usize,
+    starts: &[u32],
+    columns: &[u32],
+    rates: &'a [u32],
+    row: usize,
+) -> &'a [u32]
+    ensures content { result.now ≡ row_rates (in_rows n starts.entry columns.entry rates.entry) row }
+    ensures own { result.ref_ptr ≡ stands_at rates.entry (row_part (in_rows n starts.entry columns.entry rates.entry) row).0 }
+{
+    let chain = Chain {
+        order: n,
+        starts,
+        columns,
+        rates,
+    };
+    let Ok(_) = chain.check() else {
+        return &rates[0..0];
+    };
+    if n <= row {
+        return &rates[0..0];
+    }
+    let begin = starts[row] as usize;
+    let end = starts[row + 1] as usize;
+    &rates[begin..end]
 }

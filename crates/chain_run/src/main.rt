@@ -2,6 +2,8 @@
 // `reach_masks` give. The expected lines come from tests/chain_model.py.
 #![tactic(auto)]
 
+ghost use Rattle.std.specs.Prelude.{◌≤◌, IfOk, length};
+
 use chain::Chain;
 use reach::Masks;
 use refusal::Refusal;
@@ -20,7 +22,9 @@ fn next_count(from: &mut impl Read) -> io::Result<usize> {
 }
 
 // The next list: its length, then its numbers. No more of them are taken than there is room for.
-fn read_list<'a>(from: &mut impl Read, words: &'a mut [u32]) -> io::Result<&'a [u32]> {
+fn read_list<'a>(from: &mut impl Read, words: &'a mut [u32]) -> io::Result<&'a [u32]>
+    ensures { IfOk result (λ list. length list.now ≤ length words.old) }
+{
     let count = next_count(from)?.min(words.len());
     let list = &mut words[..count];
     for word in list.iter_mut() {
@@ -65,21 +69,6 @@ fn report(rt: &impl Print, chain: Chain, row: usize) -> io::Result<()> {
     println!(rt)
 }
 
-// A function of its own, since the proof knows of a parameter that its numbers have 32 bits, which `Chain` asks.
-fn chain_of<'a>(
-    order: usize,
-    starts: &'a [u32],
-    columns: &'a [u32],
-    rates: &'a [u32],
-) -> Chain<'a> {
-    Chain {
-        order,
-        starts,
-        columns,
-        rates,
-    }
-}
-
 // One chain: its order, a row number, and its three lists.
 fn next_chain(rt: &impl Print, from: &mut impl Read) -> io::Result<()> {
     let order = next_count(from)?;
@@ -90,7 +79,7 @@ fn next_chain(rt: &impl Print, from: &mut impl Read) -> io::Result<()> {
     let starts = read_list(from, &mut starts)?;
     let columns = read_list(from, &mut columns)?;
     let rates = read_list(from, &mut rates)?;
-    report(rt, chain_of(order, starts, columns, rates), row)
+    report(rt, Chain::new(order, starts, columns, rates), row)
 }
 
 fn main(rt: HostRuntime) -> io::Result<()> {

@@ -48,21 +48,6 @@ struct Call<'a> {
     table: &'a [u32],
 }
 
-// A function of its own, since the proof knows of a parameter that its numbers have 32 bits, which `Chain` asks.
-fn chain_of<'a>(
-    order: usize,
-    starts: &'a [u32],
-    columns: &'a [u32],
-    rates: &'a [u32],
-) -> Chain<'a> {
-    Chain {
-        order,
-        starts,
-        columns,
-        rates,
-    }
-}
-
 // The call that these numbers are, if they are one.
 fn call_of(words: &[u32]) -> Option<Call<'_>> {
     let (head, lists) = words.split_first_chunk::<13>()?;
@@ -73,7 +58,7 @@ fn call_of(words: &[u32]) -> Option<Call<'_>> {
     if !rest.is_empty() {
         return None;
     }
-    let chain = chain_of(head[0] as usize, starts, columns, rates);
+    let chain = Chain::new(head[0] as usize, starts, columns, rates);
     Some(Call { head, chain, table })
 }
 

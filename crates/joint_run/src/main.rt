@@ -8,27 +8,38 @@
 // input and the expected lines come from tests/joint_run.py; `tools/chain join` reads the first of the two lines.
 #![tactic(auto)]
 
+ghost use Rattle.std.specs.Prelude.{◌≤◌, length};
+ghost use Rattle.layout.specs.File.{longest_file};
+
 use chain::Chain;
 use framed::Next;
 use joint::JoinRefusal;
 use layout::Form;
 use refusal::Refusal;
+use std::io;
 use std::io::Read;
-use std::{fmt, io};
 
 // ---- the text
 
-// Bytes that print in hexadecimal digits, two each.
-#[derive(Clone, Copy)]
-struct Hexadecimal<'a>(&'a [u8]);
-
-impl fmt::Display for Hexadecimal<'_> {
-    fn fmt<W: fmt::Write>(&self, f: &mut fmt::Formatter<W>) -> fmt::Result {
-        for byte in self.0 {
-            write!(f, "{byte:02x}")?;
-        }
-        Ok(())
+// A hexadecimal digit, for numbers below 16.
+fn digit(x: u8) -> u8 {
+    match x {
+        0..=9 => b'0' + x,
+        10..=15 => b'a' - 10 + x,
+        _ => b'?',
     }
+}
+
+// The bytes of a file in hexadecimal digits, two each. (With `{byte:02x}` for each byte a joining takes up to twice as long.)
+fn print_digits(rt: &impl Print, bytes: &[u8]) -> io::Result<()>
+    requires { length bytes.now ≤ longest_file }
+{
+    let mut text = [0u8; 2 * layout::LONGEST_FILE];
+    for (i, &byte) in bytes.iter().enumerate() {
+        text[2 * i] = digit(byte / 16);
+        text[2 * i + 1] = digit(byte % 16);
+    }
+    rt.write_all(&text[..2 * bytes.len()])
 }
 
 // Whose refusal it is, in a word and a blank, or nothing; then its number and places.
@@ -56,11 +67,13 @@ struct Room {
 }
 
 impl Room {
-    fn new() -> Room {
+    // Built into its callers, which would else copy it: it has 32 kilobytes.
+    #[inline(always)]
+    fn empty() -> Room {
         Room {
-            starts: [5000; layout::MOST_STARTS],
-            columns: [5000; layout::MOST_ENTRIES],
-            rates: [5000; layout::MOST_ENTRIES],
+            starts: [0; layout::MOST_STARTS],
+            columns: [0; layout::MOST_ENTRIES],
+            rates: [0; layout::MOST_ENTRIES],
         }
     }
 }
@@ -82,7 +95,7 @@ fn read_part<'a>(bytes: &[u8], old: bool, room: &'a mut Room) -> Result<Chain<'a
 fn print_file(rt: &impl Print, chain: Chain) -> io::Result<()> {
     let mut out = [0u8; layout::LONGEST_FILE];
     match storage::write(Form::One, chain, &mut out) {
-        Ok(size) => print!(rt; "{}", Hexadecimal(&out[..size])),
+        Ok(size) => print_digits(rt, &out[..size]),
         Err(refusal) => print_refusal(rt, "written ", refusal),
     }
 }
@@ -124,8 +137,8 @@ fn print_line(
     columns: &mut [u32],
     rates: &mut [u32],
 ) -> io::Result<()> {
-    let mut room1 = Room::new();
-    let mut room2 = Room::new();
+    let mut room1 = Room::empty();
+    let mut room2 = Room::empty();
     match read_part(first, old, &mut room1) {
         Err(refusal) => {
             print_refusal(rt, "first ", refusal)?;
@@ -143,29 +156,42 @@ fn print_line(
 
 // ---- the input
 
-// The line with room for every joint chain, of files without rates of 0; and with room for up to 8 states, 24 columns and 20 rates, of old
-// files too.
-fn report(rt: &impl Print, first: &[u8], second: &[u8]) -> io::Result<()> {
-    let mut room = Room::new();
+// The line with room for every joint chain, of files without rates of 0.
+fn with_room(rt: &impl Print, first: &[u8], second: &[u8]) -> io::Result<()> {
+    let mut starts = [5000; layout::MOST_STARTS];
+    let mut columns = [5000; layout::MOST_ENTRIES];
+    let mut rates = [5000; layout::MOST_ENTRIES];
     print_line(
         rt,
         first,
         second,
         false,
-        &mut room.starts,
-        &mut room.columns,
-        &mut room.rates,
-    )?;
-    let mut less = Room::new();
+        &mut starts,
+        &mut columns,
+        &mut rates,
+    )
+}
+
+// The line with room for up to 8 states, 24 columns and 20 rates, of old files too. It stands beside `with_room`, each with arrays of its own lengths:
+// a `Room` for both took copies, and half as much stack again.
+fn with_less(rt: &impl Print, first: &[u8], second: &[u8]) -> io::Result<()> {
+    let mut starts = [5000; 9];
+    let mut columns = [5000; 24];
+    let mut rates = [5000; 20];
     print_line(
         rt,
         first,
         second,
         true,
-        &mut less.starts[..9],
-        &mut less.columns[..24],
-        &mut less.rates[..20],
+        &mut starts,
+        &mut columns,
+        &mut rates,
     )
+}
+
+fn report(rt: &impl Print, first: &[u8], second: &[u8]) -> io::Result<()> {
+    with_room(rt, first, second)?;
+    with_less(rt, first, second)
 }
 
 // A proved loop has to end, so it takes a number of turns that no input uses up.

@@ -11,14 +11,20 @@ ghost use Rattle.packing.specs.Inner.{picked};
 use chain::SoundChain;
 use layout::{Form, first_of, is_short, map_bytes, width_of};
 
-// A rate in two bytes or in four, put from place a on: the place after it.
+// A rate in two bytes or in four, put from place a on: the place after it. The two are copied apart, since a copy of as many bytes as a number says is
+// slower.
 fn put_rate(short: bool, rate: u32, out: &mut [u8], a: usize) -> usize
     requires { a + width short ≤ length out.old }
     ensures { (out.new ≡ sets out.old a (rate_bytes short rate)) × (result ≡ a + width short) }
 {
-    let width = width_of(short);
-    out[a..a + width].copy_from_slice(&rate.to_le_bytes()[..width]);
-    a + width
+    let bytes = rate.to_le_bytes();
+    if short {
+        out[a..a + 2].copy_from_slice(&bytes[..2]);
+        a + 2
+    } else {
+        out[a..a + 4].copy_from_slice(&bytes);
+        a + 4
+    }
 }
 
 // Rates, put from place m on: the place after them.
@@ -76,6 +82,8 @@ impl Row<'_> {
     }
 
     // That map, put from place m on: the place after it.
+    // Built into its callers, each of which says which of the two maps it wants: writing would else take up to a third longer.
+    #[inline(always)]
     fn put_map(self, short: bool, out: &mut [u8], m: usize) -> usize
         requires { m + map_bytes self.order ≤ length out.old }
         ensures { (out.new ≡ sets out.old m (map_of (picked short self.entry.columns.now self.entry.rates.now) (map_bytes self.entry.order) 0)) ×

@@ -9,7 +9,7 @@ use lib.Seq.{sets, sets-eq}
 use borrow.Author.Tests.{le-leb, lt-leb}
 use Rattle.telling.specs.Answer.{handed}
 
-room_put : (a places : List ℕ) → length places ≤ length a → sets a 0 places ≡ handed a places
+pub room_put : (a places : List ℕ) → length places ≤ length a → sets a 0 places ≡ handed a places
 unfolding handed
 room_put a places h = sym (ap (λ (b : Bool). cond b (sets a 0 places) a) (le-leb (length places) (length a) h))
 
