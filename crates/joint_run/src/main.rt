@@ -30,7 +30,7 @@ fn digit(x: u8) -> u8 {
     }
 }
 
-// The bytes of a file in hexadecimal digits, two each. (With `{byte:02x}` for each byte a joining takes up to twice as long.)
+// The bytes of a file in hexadecimal digits, two each. (With `{byte:02x}` for each byte a joining takes half as long again.)
 fn print_digits(rt: &impl Print, bytes: &[u8]) -> io::Result<()>
     requires { length bytes.now ≤ longest_file }
 {
